@@ -1,0 +1,19 @@
+-- Document 01, a module a section, in its order; then its blackboard, and small laws.
+pub mod Numbers
+pub mod Refusals
+pub mod Records
+pub mod Build
+pub mod WellFormed
+pub mod Digits
+pub mod Queue
+pub mod Buckets
+pub mod Totalizer
+pub mod Refinement
+pub mod Start
+pub mod Precision
+pub mod Encode
+pub mod Enforce
+pub mod Coarse
+pub mod Blackboard
+pub mod Broken
+pub mod Lists
