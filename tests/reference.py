@@ -159,7 +159,7 @@ def outputs_are_possible(state, records):
 def numbers_are_distinct_and_fresh(state, records):
     numbers = [out.number for out in of_kind(Output, records)]
     taken = numbers + list(state.tares[: state.tares_used])
-    last_input = max((abs(leaf.literal) for leaf in records[: state.inputs]), default=0)
+    last_input = max((abs(leaf.literal) for leaf in records[: state.inputs]), default=-1)
     return (
         numbers == sorted(numbers)
         and len(set(taken)) == len(taken)
@@ -185,11 +185,10 @@ def unbuilt_is_lawful(state, records):
     if state.built != 0:
         return True
     waiting = of_kind(Waiting, records)
-    nodes = [entry.node for entry in waiting]
     return (
         state.tares_used == 0
         and state.buckets_used == 0
-        and all(nodes.count(leaf) == 1 for leaf in range(state.inputs))
+        and sorted(entry.node for entry in waiting) == list(range(state.inputs))
         and sum(entry.weight for entry in waiting) == state.sum
     )
 
@@ -595,8 +594,8 @@ def assumptions(state, build, u):
     if state.inputs == 0:
         return 0, []
     if state.inputs == 1:
-        [weight] = [entry.weight for entry in build.waiting if entry.node == 0]
-        return 0, [] if weight <= u else [-build.records[0].literal]
+        [entry] = build.waiting
+        return 0, [] if entry.weight <= u else [-build.records[0].literal]
     if state.built == 0:
         return 11, []
     if build.largest_weight() >= state.set:

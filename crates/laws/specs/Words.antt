@@ -142,7 +142,7 @@ image-of-records ws (suc n) e =
     ap (λ k. take k ws) words
 
 -- nodes and outputs, then entries: each are read back as they were written
-entries-after : (rs : List Record) (q : List Entry) → all (λ r. not (waits r)) rs ≡ true → entries (rs ++ map waiting q) ≡ q
+pub entries-after : (rs : List Record) (q : List Entry) → all (λ r. not (waits r)) rs ≡ true → entries (rs ++ map waiting q) ≡ q
 unfolding all waits entries
 entries-after [] [] h = refl
 entries-after [] (e ∷ q) h = ap (λ (t : List Entry). e ∷ t) (entries-after [] q refl)
@@ -151,7 +151,7 @@ entries-after (output o ∷ rs) q h = entries-after rs q h
 entries-after (waiting e ∷ rs) q h = absurd (false≢true h)
 entries-after (unknown ∷ rs) q h = entries-after rs q h
 
-made-before : (rs : List Record) (q : List Entry) → all (λ r. not (waits r)) rs ≡ true → keep (λ r. not (waits r)) (rs ++ map waiting q) ≡ rs
+pub made-before : (rs : List Record) (q : List Entry) → all (λ r. not (waits r)) rs ≡ true → keep (λ r. not (waits r)) (rs ++ map waiting q) ≡ rs
 unfolding all waits keep
 made-before [] [] h = refl
 made-before [] (e ∷ q) h = made-before [] q refl
