@@ -157,7 +157,9 @@ class Writer:
 
     def lawful_lists(self):
         rng = self.rng
-        count = rng.choice([2, 2, 3, 3, 3, 4, 4, 5] * 2 + [0, 1]) if self.small else rng.randint(2, rng.choice([4, 8, 12]))
+        count = rng.choice([2, 2, 3, 3, 3, 4, 4, 5] * 2 + [0, 1])
+        if not self.small:
+            count = rng.randint(2, rng.choice([4, 8, 12]))
         highest = rng.choice([count, count + 2, 2 * count])
         lits = [sign * variable for variable in range(1, highest + 1) for sign in (1, -1)]
         lits = rng.sample(lits, count)
@@ -210,7 +212,7 @@ class Writer:
             top = ref.next_precision(state, self.world.store, self.world.clauses)[1]
         powers = range(top.bit_length())
         power = max(rng.choice(powers) for _ in range(3 if state.built == 0 else 2))
-        self.step("set", 1 << power + (rng.random() < 0.06))
+        self.step("set", 1 << min(63, power + (rng.random() < 0.06)))
         self.encode()
         for _ in range(rng.randint(0, 2) if self.small else rng.randint(0, 5)):
             self.enforce()
@@ -288,17 +290,17 @@ class Writer:
         asked = rng.randint(lo, max(lo, min(end, top) - 1)) * ratio + rng.randrange(ratio)
         u = rng.choice([asked] * 6 + [rng.randint(0, top), near, rng.choice([top, state.sum, state.sum - 1, WORD_64])])
         u = min(max(u, 0), WORD_64)
-        refusal, answer = 12, []
+        exact = 1
         if self.world.is_well_formed():
-            refusal, answer = ref.assumptions(state, ref.Build(state, self.world.store), u)
-        exact = len(answer)
-        self.step("enforce", u, rng.choice([20, 20, 20, exact, max(0, exact - 1), exact + 2, 0] if self.small else [20]))
+            exact = len(ref.assumptions(state, ref.Build(state, self.world.store), u)[1])
+        lengths = [20, 20, 20, exact, max(0, exact - 1), exact + 2, 0] if self.small else [20]
+        self.step("enforce", u, rng.choice(lengths))
 
     def coarse(self):
         rng, state = self.rng, self.world.state
         weight = 1 << min(state.tares_used, 19)
         near = max(0, rng.randint(0, 4) * weight + rng.choice([-2, -1, 0, 1]))
-        self.step("coarse", rng.choice([near, near, rng.randint(0, state.sum + 1), WORD_64, WORD_64 - 1]))
+        self.step("coarse", rng.choice([near, near, rng.randint(0, state.sum), WORD_64, WORD_64 - 1]))
 
     # altered words
 
@@ -315,11 +317,7 @@ class Writer:
         self.step("alter", field, place, min(max(word, 0), most))
         rng.choice([self.ask, self.coarse, self.coarse, self.coarse, self.set, self.enforce, self.encode])()
         if not world.is_well_formed() or rng.random() < 0.5:
-            if field == "store":
-                if place < len(world.store):
-                    self.step("alter", field, place, old)
-            elif getattr(world.state, field) != old:
-                self.step("alter", field, place, old)
+            self.step("alter", field, place, old)
 
     def place_to_alter(self):
         rng, world = self.rng, self.world
@@ -457,9 +455,9 @@ def boundary_histories():
             [asked] = play([hold, ("max",)])
             encode = ("encode", 0, 1, ref.WORK_WORDS if asked.refusal == 0 else 5)
             yield f"{name}, {case}", [hold, ("coarse", 5)] + [more, encode] * (len(hold[2]) < 800)
-    widest = ("start", [1, 2], [1 << 19, 1], 3, 8 * 200, 400)
-    asked = [("enforce", 0, 20), ("enforce", 0, 19), ("coarse", WORD_64), ("coarse", (1 << 19) - 1), ("coarse", 1 << 19)]
-    yield "19 tares", [widest, ("encode", 0, 1, ref.WORK_WORDS)] + asked
+    widest = [("start", [1, 2], [1 << 19, 1], 3, 8 * 200, 400), ("encode", 0, 1, ref.WORK_WORDS)]
+    bounds = [("coarse", u) for u in (WORD_64, (1 << 19) - 1, 1 << 19)]
+    yield "19 tares", widest + [("enforce", 0, 20), ("enforce", 0, 19)] + bounds
     for count in (256, 257):
         yield f"{count} inputs", [("start", list(range(1, count + 1)), [1] * count, count + 1, 16 * count, 0)]
 

@@ -17,7 +17,7 @@ use Rattle.laws.specs.Places.{place, nodes-same, places-same, output-none, outp
 use Rattle.laws.specs.Formed.{Ruled, Sound, Rise}
 use Rattle.guarantee.specs.Truth.{Member, member-left, member-right}
 use Rattle.guarantee.specs.Meaning.{ClaimedKind, Claimed, Sides, Pair, Derived, Asked, CompleteAt, Claim, Means, rise-high}
-use Rattle.guarantee.specs.Growing.{Keeps, Onto, onto-keeps, sides-kept, clause-kept, pair-onto, kind-onto, derived-onto, complete-onto, claim-onto}
+use Rattle.guarantee.specs.Growing.{join-parts, Keeps, Onto, onto-keeps, sides-kept, clause-kept, pair-onto, kind-onto, derived-onto, complete-onto, claim-onto}
 
 -- an arena whose clauses mean what its outputs say; its numbers and its leaves' variables were taken before the next fresh one
 pub record Told (asked : Asked) (s : Arena) : Type 0 where
@@ -33,6 +33,7 @@ pub record Grown (s t : Arena) : Type 0 where
   pub said : List (List ℤ)
   pub clauses-are : t .clauses ≡ s .clauses ++ said
   pub fresh-more : s .fresh ≤ t .fresh
+  pub more-new : All (λ o. s .fresh ≤ o .number) more
 
 pub grown-self : (s : Arena) → Grown s s
 grown-self s = record {
@@ -41,6 +42,7 @@ grown-self s = record {
   said = [];
   clauses-are = sym (append-nil (s .clauses));
   fresh-more = omega arith;
+  more-new = tt;
 }
 
 map-append : (xs ys : List Output) → map output (xs ++ ys) ≡ map output xs ++ map output ys
@@ -60,6 +62,7 @@ grown-then s t u f g = record {
       g .clauses-are ∙
       (ap (λ (cs : List (List ℤ)). cs ++ g .said) (f .clauses-are) ∙ append-assoc (s .clauses) (f .said) (g .said));
   fresh-more = omega (arith, f .fresh-more, g .fresh-more);
+  more-new = All-append (λ o. s .fresh ≤ o .number) (f .more) (g .more) (f .more-new) (All-map (λ o h. omega (arith, f .fresh-more)) (g .more) (g .more-new));
 }
 
 -- the nodes are the same
@@ -81,8 +84,12 @@ grown-onto s t g = record {
   outputs-are = grown-outputs s t g;
 }
 
+-- an output that stands goes on standing
+pub member-grown : (s t : Arena) → Grown s t → (o : Output) → Member o (outputs (s .records)) → Member o (outputs (t .records))
+member-grown s t g o m = subst (Member o) (sym (grown-outputs s t g)) (member-left o (outputs (s .records)) (g .more) m)
+
 -- the pairs of a value: within the two maxima, adding to it, and all of them
-abbrev InPair : ℕ → ℕ → ℕ → ℕ × ℕ → Type 0
+abbrev pub InPair : ℕ → ℕ → ℕ → ℕ × ℕ → Type 0
 InPair left right v p = (p .0 ≤ left) × (p .1 ≤ right) × (p .0 + p .1 ≡ v)
 
 from-in : (left right v k a : ℕ) → v - right ≤ a → k ≤ suc (min v left) - a → All (InPair left right v) (pairs-from k a v)
@@ -185,7 +192,7 @@ module _ (asked : Asked) (at : ℕ → Node) (there : ℕ → Bool) (nodes : Sou
         ((λ z. claimed-defines s₁ s₃ g₂₃ l (p .0) (g₁ .1 z), λ z. claimed-defines s₂ s₃ (g₃ .0) r (asks half (p .1)) (g₂ .1 z)), g₃ .1),
       )
 
-  sound-over : (rs : List Record) → nodeAt rs ≡ at → place rs ≡ there → Sound (nodeAt rs) (place rs)
+  pub sound-over : (rs : List Record) → nodeAt rs ≡ at → place rs ≡ there → Sound (nodeAt rs) (place rs)
   sound-over rs na pa = subst (λ (f : ℕ → Bool). Sound (nodeAt rs) f) (sym pa) (subst (λ (f : ℕ → Node). Sound f there) (sym na) nodes)
 
   kind-over : (rs : List Record) → nodeAt rs ≡ at → (n : ℕ) (kd : Kind) → at n .kind ≡ kd → nodeAt rs n .kind ≡ kd
@@ -302,7 +309,8 @@ module _ (asked : Asked) (at : ℕ → Node) (there : ℕ → Bool) (nodes : Sou
       here : CompleteAt asked rs′ (s .clauses ++ cs) o
       here half′ l′ r′ p e′ q z =
           let k : join half′ l′ r′ ≡ join half l r = sym e′ ∙ kind-onto rs rs′ nodes′ g n half l r (kind-over rs (ov .nodes-are) n (join half l r) e) in
-          at-pair half′ l′ r′ (cc) (cc) (cc) p q
+          let (eh, el, er) = join-parts half′ half l′ l r′ r k in
+          at-pair half′ l′ r′ eh el er p q
 
   numbers-positive : (s : Arena) → Over s → All (λ o. 1 ≤ o .number) (outputs (s .records))
   numbers-positive s o = rise-high 1 (outputs (s .records)) (o .told .means .rise)
@@ -335,7 +343,7 @@ module _ (asked : Asked) (at : ℕ → Node) (there : ℕ → Bool) (nodes : Sou
       u = take-number n v (write half l r (t .fresh) ps t)
 
       last : Grown t u
-      last = record { more = record { node = n; value = v; number = t .fresh } ∷ []; records-are = refl; said = map (clause (t .records) half l r (t .fresh)) ps; clauses-are = refl; fresh-more = omega arith }
+      last = record { more = record { node = n; value = v; number = t .fresh } ∷ []; records-are = refl; said = map (clause (t .records) half l r (t .fresh)) ps; clauses-are = refl; fresh-more = omega arith; more-new = (omega arith, tt) }
 
       ot : Over t
       ot = over-defines s t o (g .0)

@@ -14,6 +14,10 @@ use Rattle.laws.specs.Formed.{Ruled, Sound, Rise}
 use Rattle.guarantee.specs.Truth.{Member, member-left}
 use Rattle.guarantee.specs.Meaning.{literal, ClaimedKind, Claimed, Sides, Pair, Derived, Asked, CompleteAt, Claim, Means}
 
+-- equal joins have equal parts
+pub join-parts : (half half′ : Bool) (l l′ r r′ : ℕ) → join half l r ≡ join half′ l′ r′ → (half ≡ half′) × (l ≡ l′) × (r ≡ r′)
+join-parts half half′ l l′ r r′ e = (cc, cc, cc)
+
 -- every claim of rs is one of rs′, under the same literal
 abbrev pub Keeps : List Record → List Record → Type 0
 Keeps rs rs′ = (n v : ℕ) → Claimed rs n v → Claimed rs′ n v × (literal rs′ n v ≡ literal rs n v)

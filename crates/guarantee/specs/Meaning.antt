@@ -53,18 +53,18 @@ pub record Derived (rs : List Record) (c : List ℤ) : Type 0 where
   pub sides : Sides rs half l r p
   pub is : c ≡ clause rs half l r (o .number) p
 
--- which clauses are asked: of node n, those of pairs (a, b) with this b
+-- which clauses are asked: of an output, those of pairs (a, b) with this b
 abbrev pub Asked : Type 1
-Asked = ℕ → ℕ → Type 0
+Asked = Output → ℕ → Type 0
 
 -- all are
 abbrev pub every : Asked
-every n b = Unit {0}
+every o b = Unit {0}
 
 -- complete at an output: every asked clause that the rule asks for it is there, and its sides are claimed
 abbrev pub CompleteAt : Asked → List Record → List (List ℤ) → Output → Type 0
 CompleteAt asked rs cs o =
-    (half : Bool) (l r : ℕ) (p : ℕ × ℕ) → nodeAt rs (o .node) .kind ≡ join half l r → Pair rs half l r (o .value) p → asked (o .node) (p .1) →
+    (half : Bool) (l r : ℕ) (p : ℕ × ℕ) → nodeAt rs (o .node) .kind ≡ join half l r → Pair rs half l r (o .value) p → asked o (p .1) →
     Sides rs half l r p × Member (clause rs half l r (o .number) p) cs
 
 -- a claimed output is of a join, and its number is no leaf's variable
@@ -233,7 +233,8 @@ module _ (rs : List Record) (place : ℕ → Bool) (nodes : Sound (nodeAt rs) pl
       value-agree (nodeAt rs) (holds meant) (holds α)
       (λ m x e. holds-agree meant α x (meant-apart (natAbs x) (All-map (λ o c. c .apart m x e) (outputs rs) (means .claims)))) n
 
-  meant-at : All (λ o. holds meant (pos (o .number)) ≡ leb (o .value) (value (nodeAt rs) (holds meant) (o .node))) (outputs rs)
+  -- each output says that its node's value is at least its own
+  pub meant-at : All (λ o. holds meant (pos (o .number)) ≡ leb (o .value) (value (nodeAt rs) (holds meant) (o .node))) (outputs rs)
   unfolding meant
   meant-at =
       All-zip (λ o low e. pos-holds meant (o .number) low ∙ (e ∙ ap (leb (o .value)) (sym (meant-value (o .node))))) (outputs rs)

@@ -130,6 +130,10 @@ module _ {A : Type 0} where
   length-total [] = refl
   length-total (x ∷ xs) = omega (arith, length-total xs)
 
+pub map-append : {A B : Type 0} (f : A → B) (xs ys : List A) → map f (xs ++ ys) ≡ map f xs ++ map f ys
+map-append f [] ys = refl
+map-append {B = B} f (x ∷ xs) ys = ap (λ (t : List B). f x ∷ t) (map-append f xs ys)
+
 -- facts of the images
 pub All-image : {A B : Type 0} (P : B → Type 0) (f : A → B) (xs : List A) → All (λ x. P (f x)) xs → All P (map f xs)
 All-image P f [] h = tt

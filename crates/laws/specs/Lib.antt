@@ -11,3 +11,16 @@ pub mod Clauses
 pub mod Reads
 pub mod Writes
 pub mod Whole
+pub mod Defines
+pub mod Outputs
+pub mod Grows
+pub mod Merges
+pub mod Runs
+pub mod Loads
+pub mod Gathers
+pub mod Fills
+pub mod Standings
+pub mod Towers
+pub mod Tops
+pub mod Climbs
+pub mod Patches

@@ -1,0 +1,3 @@
+-- Laws of numbers and literals.
+pub mod Bits
+pub mod Literals

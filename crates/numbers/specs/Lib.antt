@@ -1,0 +1,2 @@
+-- Definitions that the contracts of numbers cite beside those of rules.
+pub mod Signed

@@ -1,0 +1,167 @@
+-- What the fields of a record are, where the words store records. Assumes nothing.
+use mathlib.Core.Path.{_≡_, refl, sym, ap, ap₂, _∙_}
+use mathlib.Core.Bool.{Bool, true, false, cond, false≢true}
+use mathlib.Core.List.{List, [], _∷_, _++_}
+use Prim.Native.Nat.{ℕ, zero, suc, _+_, _*_, _/_, _≤_, _<_, min, max}
+use native.Mathlib.Omega.{arith}
+use lib.Dec.{eqb, ltb}
+use lib.ListN.{length, getD, take, length-take, List·getD-eq-default, getD-replicate}
+use lib.Seq.{getD-take}
+use borrow.Author.Tests.{ltb-true, ltb-false, lt-ltb, eqb-true, eqb-false}
+use Rattle.rules.specs.Records.{Kind, leaf, join, dummy, Record, node, output, waiting, unknown, node-image, record-image, imageOf, node-of, nodeAt, dummy-node, left-link, right-link}
+use Rattle.laws.specs.Words.{image-length}
+use Rattle.records.specs.Words.{field-at}
+use Rattle.records.specs.Carries.{Stores, size, is-join, is-halved}
+use Rattle.records.proofs.Lay.{image-word}
+
+-- the fifth word of any record is its maximum, the sixth its height
+node-maximum : (k : Kind) (m h : ℕ) → getD (node-image k m h) 4 0 ≡ m
+unfolding node-image
+node-maximum (leaf x) m h = refl
+node-maximum (join half l r) m h = refl
+node-maximum dummy m h = refl
+
+node-height : (k : Kind) (m h : ℕ) → getD (node-image k m h) 5 0 ≡ h
+unfolding node-image
+node-height (leaf x) m h = refl
+node-height (join half l r) m h = refl
+node-height dummy m h = refl
+
+pub maximum-word : (r : Record) → getD (record-image r) 4 0 ≡ node-of r .maximum
+unfolding record-image node-of
+maximum-word (node n) = node-maximum (n .kind) (n .maximum) (n .height)
+maximum-word (output o) = refl
+maximum-word (waiting e) = refl
+maximum-word unknown = refl
+
+pub height-word : (r : Record) → getD (record-image r) 5 0 ≡ node-of r .height
+unfolding record-image node-of
+height-word (node n) = node-height (n .kind) (n .maximum) (n .height)
+height-word (output o) = refl
+height-word (waiting e) = refl
+height-word unknown = refl
+
+-- the size of a record by its words
+pub size-words : (r : Record) (ws : List ℕ) → record-image r ≡ ws → size r ≡ max (getD ws 4 0) (getD ws 5 0)
+unfolding size
+size-words r ws e =
+    ap₂ max (sym (maximum-word r)) (sym (height-word r)) ∙
+    ap (λ (z : List ℕ). max (getD z 4 0) (getD z 5 0)) e
+
+-- a join's links and halving by its words
+join-words : (r : Record) → getD (record-image r) 0 0 ≡ 2 →
+    (left-link (node-of r .kind) ≡ getD (record-image r) 1 0) × (right-link (node-of r .kind) ≡ getD (record-image r) 2 0) ×
+    (is-halved (node-of r .kind) ≡ eqb (getD (record-image r) 3 0) 1) × (is-join (node-of r .kind) ≡ true)
+unfolding record-image node-of node-image left-link right-link is-halved is-join
+join-words (node n) = go (n .kind) (n .maximum) (n .height)
+  where
+    go : (k : Kind) (m h : ℕ) → getD (node-image k m h) 0 0 ≡ 2 →
+        (left-link k ≡ getD (node-image k m h) 1 0) × (right-link k ≡ getD (node-image k m h) 2 0) ×
+        (is-halved k ≡ eqb (getD (node-image k m h) 3 0) 1) × (is-join k ≡ true)
+    go (leaf x) m h e = absurd (omega arith)
+    go (join true l r) m h e = (refl, refl, refl, refl)
+    go (join false l r) m h e = (refl, refl, refl, refl)
+    go dummy m h e = absurd (omega arith)
+join-words (output o) = λ e. absurd (omega arith)
+join-words (waiting w) = λ e. absurd (omega arith)
+join-words unknown = λ e. absurd (omega arith)
+
+-- any other record has none
+other-words : (r : Record) → (getD (record-image r) 0 0 ≡ 2 → ⊥) →
+    (left-link (node-of r .kind) ≡ 0) × (right-link (node-of r .kind) ≡ 0) × (is-halved (node-of r .kind) ≡ false) × (is-join (node-of r .kind) ≡ false)
+unfolding record-image node-of node-image left-link right-link is-halved is-join dummy-node
+other-words (node n) = go (n .kind) (n .maximum) (n .height)
+  where
+    go : (k : Kind) (m h : ℕ) → (getD (node-image k m h) 0 0 ≡ 2 → ⊥) →
+        (left-link k ≡ 0) × (right-link k ≡ 0) × (is-halved k ≡ false) × (is-join k ≡ false)
+    go (leaf x) m h e = (refl, refl, refl, refl)
+    go (join half l r) m h e = absurd (e refl)
+    go dummy m h e = (refl, refl, refl, refl)
+other-words (output o) = λ e. (refl, refl, refl, refl)
+other-words (waiting w) = λ e. (refl, refl, refl, refl)
+other-words unknown = λ e. (refl, refl, refl, refl)
+
+-- a join is made of its halving and its links
+pub join-parts : (k : Kind) → is-join k ≡ true → k ≡ join (is-halved k) (left-link k) (right-link k)
+unfolding is-join is-halved left-link right-link
+join-parts (join half l r) e = refl
+join-parts (leaf x) e = absurd (false≢true e)
+join-parts dummy e = absurd (false≢true e)
+
+-- the words s store rs
+module _ (s : List ℕ) (records : ℕ) (rs : List Record) (h : Stores s records rs) where
+  within : 8 * records ≤ length s
+  within = omega (arith, ap length (h .image-is), length-take (8 * records) s, image-length rs, h .count-is)
+
+  inside : (n k : ℕ) → n < length rs → k < 8 → getD s (8 * n + k) 0 ≡ getD (record-image (getD rs n unknown)) k 0
+  inside n k i j =
+      sym (getD-take (8 * records) s (8 * n + k) 0 (omega (arith, h .count-is))) ∙
+      (ap (λ z. getD z (8 * n + k) 0) (h .image-is) ∙ image-word rs n k i j)
+
+  outside : (n k : ℕ) → length rs ≤ n → k < 8 → 0 ≡ getD (record-image (getD rs n unknown)) k 0
+  unfolding record-image
+  outside n k i j = sym (ap (λ (r : Record). getD (record-image r) k 0) (List·getD-eq-default rs unknown i) ∙ getD-replicate {A = ℕ} 8 k 0 0 j)
+
+  -- a field is a word of the record's image
+  pub field-is : (n k : ℕ) → k < 8 → field-at s records n k ≡ getD (record-image (getD rs n unknown)) k 0
+  unfolding field-at
+  field-is n k j = go (ltb n records) refl
+    where
+      go : (b : Bool) → ltb n records ≡ b →
+          cond b (cond (ltb n (length s / 8)) (cond (ltb k 8) (getD s (8 * n + k) 0) 0) 0) 0 ≡ getD (record-image (getD rs n unknown)) k 0
+      go true e =
+          let i : n < records = ltb-true n records e in
+          let c : records ≡ length rs = h .count-is in
+          rw (lt-ltb n (length s / 8) (omega (arith, within)), lt-ltb k 8 j) (inside n k (omega arith) j)
+      go false e =
+          let i : records ≤ n = ltb-false n records e in
+          let c : records ≡ length rs = h .count-is in
+          outside n k (omega arith) j
+
+  pub maximum-is : (n : ℕ) → field-at s records n 4 ≡ nodeAt rs n .maximum
+  unfolding nodeAt
+  maximum-is n = field-is n 4 (omega arith) ∙ maximum-word (getD rs n unknown)
+
+  pub height-is : (n : ℕ) → field-at s records n 5 ≡ nodeAt rs n .height
+  unfolding nodeAt
+  height-is n = field-is n 5 (omega arith) ∙ height-word (getD rs n unknown)
+
+  module _ (n x : ℕ) (ex : x ≡ field-at s records n 0) where
+    kind-is : x ≡ getD (record-image (getD rs n unknown)) 0 0
+    kind-is = ex ∙ field-is n 0 (omega arith)
+
+    pub joins-is : eqb x 2 ≡ is-join (nodeAt rs n .kind)
+    unfolding nodeAt
+    joins-is = go (eqb x 2) refl
+      where
+        go : (b : Bool) → eqb x 2 ≡ b → b ≡ is-join (node-of (getD rs n unknown) .kind)
+        go true e = sym (join-words (getD rs n unknown) (sym kind-is ∙ eqb-true x 2 e) .3)
+        go false e = sym (other-words (getD rs n unknown) (λ q. eqb-false x 2 e (kind-is ∙ q)) .3)
+
+    module _ (no : x ≡ 2 → ⊥) where
+      others : (left-link (nodeAt rs n .kind) ≡ 0) × (right-link (nodeAt rs n .kind) ≡ 0) × (is-halved (nodeAt rs n .kind) ≡ false) × (is-join (nodeAt rs n .kind) ≡ false)
+      unfolding nodeAt
+      others = other-words (getD rs n unknown) (λ q. no (kind-is ∙ q))
+
+      pub left-none : 0 ≡ left-link (nodeAt rs n .kind)
+      left-none = sym (others .0)
+
+      pub right-none : 0 ≡ right-link (nodeAt rs n .kind)
+      right-none = sym (others .1)
+
+      pub halved-none : false ≡ is-halved (nodeAt rs n .kind)
+      halved-none = sym (others .2)
+
+    module _ (yes : x ≡ 2) (y : ℕ) where
+      pub left-some : y ≡ field-at s records n 1 → y ≡ left-link (nodeAt rs n .kind)
+      unfolding nodeAt
+      left-some e = e ∙ (field-is n 1 (omega arith) ∙ sym (join-words (getD rs n unknown) (sym kind-is ∙ yes) .0))
+
+      pub right-some : y ≡ field-at s records n 2 → y ≡ right-link (nodeAt rs n .kind)
+      unfolding nodeAt
+      right-some e = e ∙ (field-is n 2 (omega arith) ∙ sym (join-words (getD rs n unknown) (sym kind-is ∙ yes) .1))
+
+      pub halved-some : y ≡ field-at s records n 3 → eqb y 1 ≡ is-halved (nodeAt rs n .kind)
+      unfolding nodeAt
+      halved-some e =
+          ap (λ (z : ℕ). eqb z 1) (e ∙ field-is n 3 (omega arith)) ∙ sym (join-words (getD rs n unknown) (sym kind-is ∙ yes) .2)

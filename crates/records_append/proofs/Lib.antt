@@ -1,0 +1,2 @@
+-- The laws of appending a record.
+pub mod Appending

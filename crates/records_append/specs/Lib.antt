@@ -1,0 +1,2 @@
+-- What the contracts of appending cite beside the relation.
+pub mod Fresh

@@ -1,0 +1,4 @@
+-- The laws of defining.
+pub mod Growth
+pub mod Pairs
+pub mod Defining

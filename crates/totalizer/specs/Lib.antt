@@ -1,0 +1,1 @@
+-- The promises of the totalizer cite the rules and the relation of records alone.

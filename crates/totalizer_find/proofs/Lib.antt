@@ -1,0 +1,2 @@
+-- The laws of finding.
+pub mod Walk

@@ -1,0 +1,1 @@
+-- The promise of merging cites the rules and the relation of records alone.
