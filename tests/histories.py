@@ -142,8 +142,9 @@ class Writer:
             self.first_start()
             if rng.random() < 0.8:
                 self.round()
-        kinds = [self.round, self.set, self.encode, self.enforce, self.coarse, self.ask, self.damage]
-        odds = [40, 12, 8, 12, 5, 5, 24] if self.small else [40, 8, 12, 28, 2, 2, 0]
+        kinds = [self.round, self.finer_question, self.damage]
+        kinds += [self.set, self.encode, self.enforce, self.coarse, self.ask]
+        odds = [40, 12, 24, 8, 8, 10, 5, 5] if self.small else [40, 10, 0, 8, 12, 28, 2, 2]
         for _ in range(rng.randint(1, 4) if self.small else rng.randint(4, 12)):
             rng.choices(kinds, odds)[0]()
         if self.small and rng.random() < 0.3:
@@ -169,6 +170,9 @@ class Writer:
         weights = [rng.choice([rng.randint(1, most), 1 << rng.randrange(most.bit_length()), most]) for _ in lits]
         if rng.random() < 0.2:
             weights = [rng.choice(weights[:2]) for _ in weights]
+        if rng.random() < 0.25:
+            shift = rng.randint(1, 3)
+            weights = [min(weight, ref.MOST_WEIGHT >> shift) << shift for weight in weights]
         return lits, weights
 
     def first_start(self):
@@ -215,6 +219,16 @@ class Writer:
         self.step("set", 1 << min(63, power + (rng.random() < 0.06)))
         self.encode()
         for _ in range(rng.randint(0, 2) if self.small else rng.randint(0, 5)):
+            self.enforce()
+
+    def finer_question(self):
+        """A divisor below the built one that no waiting weight reaches, and some bounds."""
+        rng, state = self.rng, self.world.state
+        if self.world.is_well_formed():
+            least = ref.Build(state, self.world.store).largest_weight().bit_length()
+            most = max(state.built, 1).bit_length() - 1
+            self.step("set", 1 << rng.randint(min(least, most), most))
+        for _ in range(2):
             self.enforce()
 
     def ask(self):

@@ -54,7 +54,7 @@ sum-agree d t u (x ∷ xs) [] a = refl
 sum-agree d t u (x ∷ xs) (w ∷ ws) a = ap₂ (λ y z. w / d * bit y + z) (a .0) (sum-agree d t u xs ws (a .1))
 
 -- a bound on the root is one on the sum
-bound-law : (s j k : ℕ) → (s / 2 ^ k ≤ j) ↔ (s < suc j * 2 ^ k)
+pub bound-law : (s j k : ℕ) → (s / 2 ^ k ≤ j) ↔ (s < suc j * 2 ^ k)
 bound-law s j k = (λ h. div-lt-iff-lt-mul (pow-pos k) .0 (omega arith), λ h. omega (arith, div-lt-iff-lt-mul {x = s} {y = suc j} (pow-pos k) .1 h))
 
 module _ (xs : List ℤ) (ws : List ℕ) (d : ℕ) (s : Arena) (root : ℕ) (tares : List ℕ) (c : Counting xs ws d s root tares)

@@ -33,7 +33,7 @@ tare-begins rs [] members = begins-self rs
 tare-begins rs (tare ∷ tares) members = begins-add rs (leaf-node (pos tare))
 
 -- the first tare of what is left of a list of tares
-abbrev first : Truths → List ℕ → ℕ
+abbrev pub first : Truths → List ℕ → ℕ
 first t [] = 0
 first t (x ∷ xs) = bit (t (pos x))
 
@@ -50,7 +50,7 @@ tare-counts base t f rs (tare ∷ tares) members h reads =
     total-append f members (length rs ∷ []) ∙ omega arith
 
 -- a member or a tare
-abbrev Some : List ℕ → List ℕ → Type 0
+abbrev pub Some : List ℕ → List ℕ → Type 0
 Some [] members = 1 ≤ length members
 Some (tare ∷ tares) members = Unit {0}
 

@@ -14,3 +14,14 @@ pub mod Answers
 pub mod Keeping
 pub mod Patching
 pub mod Extending
+pub mod Filling
+pub mod Weighing
+pub mod Refining
+pub mod Refined
+pub mod Leaves
+pub mod Telling
+pub mod Renewing
+pub mod Worlds
+pub mod Reached
+pub mod Demand3
+pub mod Instances

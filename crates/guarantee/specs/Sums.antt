@@ -7,31 +7,38 @@ use native.Mathlib.Omega.{arith}
 use lib.ListN.{length, length-append, take, drop, take-append-drop, length-take, length-drop}
 use lib.IntN.{ℤ}
 use Rattle.rules.specs.Lists.{total}
-use Rattle.rules.specs.Records.{leaf, join, dummy, Node, Record, node, nodeAt}
+use Rattle.rules.specs.Records.{leaf, join, dummy, Node, Output, Record, node, nodeAt, outputs}
 use Rattle.rules.specs.Totalizer.{counts, joining, add, merge-by, merge}
 use Rattle.laws.specs.Facts.{All, total-append}
-use Rattle.laws.specs.Places.{place, place-inside, leaf-place, join-place, nodeAt-append, nodeAt-last}
+use Rattle.laws.specs.Places.{place, place-inside, leaf-place, join-place, nodeAt-append, nodeAt-last, outputs-append}
 use Rattle.laws.specs.Formed.{Sound}
 use Rattle.guarantee.specs.Truth.{Truths}
 use Rattle.guarantee.specs.Values.{bit, value, value-leaf, value-dummy, value-join}
 
--- rs′ begins with rs
+-- rs′ begins with rs, and no output was added
 pub record Begins (rs rs′ : List Record) : Type 0 where
   pub rest : List Record
   pub is : rs′ ≡ rs ++ rest
+  pub silent : outputs rest ≡ []
 
 pub begins-self : (rs : List Record) → Begins rs rs
-begins-self rs = record { rest = []; is = sym (append-nil rs) }
+unfolding outputs
+begins-self rs = record { rest = []; is = sym (append-nil rs); silent = refl }
 
 pub begins-then : (rs rs′ rs″ : List Record) → Begins rs rs′ → Begins rs′ rs″ → Begins rs rs″
 begins-then rs rs′ rs″ a b = record {
   rest = a .rest ++ b .rest;
   is = b .is ∙ (ap (λ (x : List Record). x ++ b .rest) (a .is) ∙ append-assoc rs (a .rest) (b .rest));
+  silent = outputs-append (a .rest) (b .rest) ∙ ap₂ (λ (x y : List Output). x ++ y) (a .silent) (b .silent);
 }
 
+pub begins-outputs : (rs rs′ : List Record) → Begins rs rs′ → outputs rs′ ≡ outputs rs
+begins-outputs rs rs′ b =
+    ap outputs (b .is) ∙ (outputs-append rs (b .rest) ∙ (ap (λ (x : List Output). outputs rs ++ x) (b .silent) ∙ append-nil (outputs rs)))
+
 pub begins-add : (rs : List Record) (nd : Node) → Begins rs (add rs nd .0)
-unfolding add
-begins-add rs nd = record { rest = node nd ∷ []; is = refl }
+unfolding add outputs
+begins-add rs nd = record { rest = node nd ∷ []; is = refl; silent = refl }
 
 pub begins-length : (rs rs′ : List Record) → Begins rs rs′ → length rs ≤ length rs′
 begins-length rs rs′ b = omega (arith, length-append rs (b .rest), ap length (b .is))

@@ -14,7 +14,8 @@ use Rattle.rules.specs.Records.{Kind, leaf, join, dummy, Node, Output, Entry, R
 use Rattle.rules.specs.Totalizer.{joining}
 use Rattle.rules.specs.WellFormed.{is-leaf, is-dummy, leaf-lawful, leaves-lawful, by-rule, heights-right, maxima-right, maxima-within, outputs-no-leaf, same-output, all-differ, values-within, rise-from, links, node-links, halved-to, ends-in, linked, above, spares-buckets, waiting-last}
 use Rattle.laws.specs.Words.{both}
-use Rattle.laws.specs.Facts.{All, All-map, All-zip, All-rising, rising-at, and-true, neither, not-yes, all-facts, facts-all, occurs, not-among-occurs, occurs-not-among}
+use Rattle.laws.specs.Facts.{All, All-map, All-zip, All-rising, rising-at, and-true, neither, not-yes, all-facts, facts-all, occurs, or-left, or-right}
+use Rattle.laws.specs.Counts.{not-among-occurs, occurs-not-among}
 use Rattle.laws.specs.Places.{place, place-inside, join-place, nodes-each, each-nodes}
 use Rattle.laws.specs.Formed.{Sound, Valued, Rise, Differ, Spares, Ends, Linked}
 
@@ -57,8 +58,10 @@ pub sound-of : (rs : List Record) → leaves-lawful rs ≡ true → ((n : ℕ) �
 unfolding leaves-lawful heights-right maxima-right maxima-within by-rule joining leaf-node dummy-node leaf-lawful node-links all
 sound-of rs lawfuls links heights maxima bounds n =
     let nd : Node = nodeAt rs n in
-    let h : nd .height ≡ by-rule rs (nd .kind) .height = eqb-true _ _ (nodes-each (λ n. eqb (n .height) (by-rule rs (n .kind) .height)) rs refl heights n) in
-    let m : nd .maximum ≡ by-rule rs (nd .kind) .maximum = eqb-true _ _ (nodes-each (λ n. eqb (n .maximum) (by-rule rs (n .kind) .maximum)) rs refl maxima n) in
+    let h : nd .height ≡ by-rule rs (nd .kind) .height =
+    eqb-true _ _ (nodes-each (λ n. eqb (n .height) (by-rule rs (n .kind) .height)) rs refl heights n) in
+    let m : nd .maximum ≡ by-rule rs (nd .kind) .maximum =
+    eqb-true _ _ (nodes-each (λ n. eqb (n .maximum) (by-rule rs (n .kind) .maximum)) rs refl maxima n) in
     let w : leaf-lawful (nd .kind) ≡ true = nodes-each (λ n. leaf-lawful (n .kind)) rs refl lawfuls n in
     record {
       links-are = λ half l r e.
@@ -67,7 +70,12 @@ sound-of rs lawfuls links heights maxima bounds n =
           (left, both (place rs r) true rest .0);
       height-is = λ half l r e. h ∙ ap (λ (k : Kind). by-rule rs k .height) e;
       maximum-is = λ half l r e. m ∙ ap (λ (k : Kind). by-rule rs k .maximum) e;
-      leaf-is = λ x e. (sym (ap leaf-lawful e) ∙ w, m ∙ ap (λ (k : Kind). by-rule rs k .maximum) e, h ∙ ap (λ (k : Kind). by-rule rs k .height) e);
+      leaf-is = λ x e. (
+        sym (ap leaf-lawful e) ∙ w,
+        m ∙ ap (λ (k : Kind). by-rule rs k .maximum) e,
+        h ∙
+            ap (λ (k : Kind). by-rule rs k .height) e,
+      );
       dummy-is = λ e. (m ∙ ap (λ (k : Kind). by-rule rs k .maximum) e, h ∙ ap (λ (k : Kind). by-rule rs k .height) e);
       within = leb-true _ _ (nodes-each (λ n. leb (n .maximum) 513) rs refl bounds n);
     }
@@ -138,7 +146,8 @@ unfolding any same-output
 none-any o [] h = refl
 none-any o (p ∷ os) h = go (eqb (o .node) (p .node)) refl (eqb (o .value) (p .value)) refl (none-any o os (h .1))
   where
-    go : (a : Bool) → eqb (o .node) (p .node) ≡ a → (b : Bool) → eqb (o .value) (p .value) ≡ b → any (same-output o) os ≡ false → ((a && b) || any (same-output o) os) ≡ false
+    go : (a : Bool) → eqb (o .node) (p .node) ≡ a → (b : Bool) → eqb (o .value) (p .value) ≡ b → any (same-output o) os ≡ false →
+        ((a && b) || any (same-output o) os) ≡ false
     go true e true f ih = absurd (h .0 (eqb-true _ _ e) (eqb-true _ _ f))
     go true e false f ih = ih
     go false e b f ih = ih
@@ -155,24 +164,30 @@ unfolding all-differ
 of-differ [] h = refl
 of-differ (o ∷ os) h = and-true (ap not (none-any o os (h .0))) (of-differ os (h .1))
 
-pub valued-of : (rs : List Record) → outputs-no-leaf rs ≡ true → values-within rs ≡ true → All (λ o. place rs (o .node) ≡ true) (outputs rs) →
+pub valued-of : (rs : List Record) → outputs-no-leaf rs ≡ true → values-within rs ≡ true →
+    All (λ o. place rs (o .node) ≡ true) (outputs rs) →
     All (Valued (nodeAt rs) (place rs)) (outputs rs)
 unfolding outputs-no-leaf values-within
 valued-of rs no-leaf values named =
-    All-zip {Q = λ o. ((1 ≤ o .value) × (o .value ≤ nodeAt rs (o .node) .maximum)) × (place rs (o .node) ≡ true)} (λ o f v. record { named = v .1; no-leaf = f; low = v .0 .0; high = v .0 .1 }) (outputs rs)
-    (all-facts (λ o. not (is-leaf (nodeAt rs (o .node) .kind))) (λ o e. no-leaf-test (nodeAt rs (o .node) .kind) (not-yes _ e)) (outputs rs) no-leaf)
+    All-zip {Q = λ o. ((1 ≤ o .value) × (o .value ≤ nodeAt rs (o .node) .maximum)) × (place rs (o .node) ≡ true)}
+    (λ o f v. record { named = v .1; no-leaf = f; low = v .0 .0; high = v .0 .1 }) (outputs rs)
+    (all-facts (λ o. not (is-leaf (nodeAt rs (o .node) .kind))) (λ o e. no-leaf-test (nodeAt rs (o .node) .kind) (not-yes _ e)) (outputs rs)
+    no-leaf)
     (All-zip {P = λ o. (1 ≤ o .value) × (o .value ≤ nodeAt rs (o .node) .maximum)} (λ o v p. (v, p)) (outputs rs)
-    (all-facts (λ o. leb 1 (o .value) && leb (o .value) (nodeAt rs (o .node) .maximum)) (λ o e. let (a, b) = both (leb 1 (o .value)) _ e in (leb-true _ _ a, leb-true _ _ b)) (outputs rs) values)
+    (all-facts (λ o. leb 1 (o .value) && leb (o .value) (nodeAt rs (o .node) .maximum))
+    (λ o e. let (a, b) = both (leb 1 (o .value)) _ e in (leb-true _ _ a, leb-true _ _ b)) (outputs rs) values)
     named)
 
 module _ (rs : List Record) (v : All (Valued (nodeAt rs) (place rs)) (outputs rs)) where
   pub of-valued-no-leaf : outputs-no-leaf rs ≡ true
   unfolding outputs-no-leaf
-  of-valued-no-leaf = facts-all (λ o. not (is-leaf (nodeAt rs (o .node) .kind))) (λ o f. ap not (test-no-leaf (nodeAt rs (o .node) .kind) (f .no-leaf))) (outputs rs) v
+  of-valued-no-leaf = facts-all (λ o. not (is-leaf (nodeAt rs (o .node) .kind)))
+      (λ o f. ap not (test-no-leaf (nodeAt rs (o .node) .kind) (f .no-leaf))) (outputs rs) v
 
   pub of-valued-within : values-within rs ≡ true
   unfolding values-within
-  of-valued-within = facts-all (λ o. leb 1 (o .value) && leb (o .value) (nodeAt rs (o .node) .maximum)) (λ o f. and-true (le-leb _ _ (f .low)) (le-leb _ _ (f .high))) (outputs rs) v
+  of-valued-within = facts-all (λ o. leb 1 (o .value) && leb (o .value) (nodeAt rs (o .node) .maximum))
+      (λ o f. and-true (le-leb _ _ (f .low)) (le-leb _ _ (f .high))) (outputs rs) v
 
   pub of-valued-named : All (λ o. place rs (o .node) ≡ true) (outputs rs)
   of-valued-named = All-map (λ o f. f .named) (outputs rs) v
@@ -215,12 +230,15 @@ of-linked rs wait [] h = refl
 of-linked rs wait (b ∷ []) h = of-ends rs wait b h
 of-linked rs wait (b ∷ c ∷ bs) h = and-true (ap (halved-to c) (h .0 .1) ∙ eq-eqb c c refl) (of-linked rs wait (c ∷ bs) (h .1))
 
-pub spares-of : (rs : List Record) (bs : List ℕ) → all (λ i. spares-buckets bs i (nodeAt rs i .kind)) (rising (length rs) 0) ≡ true → Spares (nodeAt rs) bs
+pub spares-of : (rs : List Record) (bs : List ℕ) → all (λ i. spares-buckets bs i (nodeAt rs i .kind)) (rising (length rs) 0) ≡ true →
+    Spares (nodeAt rs) bs
 unfolding spares-buckets
 spares-of rs bs e i half l r k =
     let there : i < length rs = place-inside rs i (join-place rs i half l r k) in
-    let each : All (λ i. spares-buckets bs i (nodeAt rs i .kind) ≡ true) (rising (length rs) 0) = all-facts (λ i. spares-buckets bs i (nodeAt rs i .kind)) (λ i e. e) (rising (length rs) 0) e in
-    let at : spares-buckets bs i (nodeAt rs i .kind) ≡ true = rising-at (λ i. spares-buckets bs i (nodeAt rs i .kind) ≡ true) (length rs) 0 each i (omega arith) (omega arith) in
+    let each : All (λ i. spares-buckets bs i (nodeAt rs i .kind) ≡ true) (rising (length rs) 0) =
+    all-facts (λ i. spares-buckets bs i (nodeAt rs i .kind)) (λ i e. e) (rising (length rs) 0) e in
+    let at : spares-buckets bs i (nodeAt rs i .kind) ≡ true =
+    rising-at (λ i. spares-buckets bs i (nodeAt rs i .kind) ≡ true) (length rs) 0 each i (omega arith) (omega arith) in
     let (left, right) = both (not (among bs l)) (not (among bs r) || above bs i r) (ap (spares-buckets bs i) (sym k) ∙ at) in
     (not-among-occurs bs l (not-yes _ left), go (among bs r) refl right)
   where
@@ -228,18 +246,13 @@ spares-of rs bs e i half l r k =
     go true p q = inr q
     go false p q = inl (not-among-occurs bs r p)
 
-pub of-spares : (rs : List Record) (bs : List ℕ) → Spares (nodeAt rs) bs → all (λ i. spares-buckets bs i (nodeAt rs i .kind)) (rising (length rs) 0) ≡ true
+pub of-spares : (rs : List Record) (bs : List ℕ) → Spares (nodeAt rs) bs →
+    all (λ i. spares-buckets bs i (nodeAt rs i .kind)) (rising (length rs) 0) ≡ true
 unfolding spares-buckets
-of-spares rs bs h = facts-all (λ i. spares-buckets bs i (nodeAt rs i .kind)) (λ i (e : spares-buckets bs i (nodeAt rs i .kind) ≡ true). e) (rising (length rs) 0) (All-rising (λ i. spares-buckets bs i (nodeAt rs i .kind) ≡ true) (length rs) 0 (λ i a b. go i (nodeAt rs i .kind) refl))
+of-spares rs bs h = facts-all (λ i. spares-buckets bs i (nodeAt rs i .kind)) (λ i (e : spares-buckets bs i (nodeAt rs i .kind) ≡ true). e)
+    (rising (length rs) 0) (All-rising (λ i. spares-buckets bs i (nodeAt rs i .kind) ≡ true) (length rs) 0
+    (λ i a b. go i (nodeAt rs i .kind) refl))
   where
-    or-right : (a b : Bool) → b ≡ true → (a || b) ≡ true
-    or-right true b e = refl
-    or-right false b e = e
-
-    or-left : (a b : Bool) → a ≡ true → (a || b) ≡ true
-    or-left true b e = refl
-    or-left false b e = absurd (false≢true e)
-
     right : (i r : ℕ) → (occurs r bs ≡ 0) ⊎ (above bs i r ≡ true) → (not (among bs r) || above bs i r) ≡ true
     right i r (inl e) = or-left (not (among bs r)) (above bs i r) (ap not (occurs-not-among bs r e))
     right i r (inr e) = or-right (not (among bs r)) (above bs i r) e

@@ -1,18 +1,15 @@
 -- Old buckets brought up to date from the lowest to the root: each linked to the one below, by the rule again, no maximum less. Assumes nothing.
 use mathlib.Core.Path.{_≡_, refl, sym, _∙_, ap, ap₂, subst}
-use mathlib.Core.Logic.{_≢_, _⊎_, inl, inr}
-use mathlib.Core.Bool.{Bool, true, false, _&&_, _||_, false≢true}
+use mathlib.Core.Logic.{_≢_}
+use mathlib.Core.Bool.{Bool, true, false}
 use mathlib.Core.List.{List, [], _∷_, _++_, reverse, reverse-cons}
-use Prim.Native.Nat.{ℕ, zero, suc, _+_, _-_, _/_, _≤_, _<_, max}
+use Prim.Native.Nat.{ℕ, suc, _+_, _/_, _≤_, _<_, max}
 use native.Mathlib.Omega.{arith}
-use lib.Dec.{eqb}
 use lib.ListN.{length, length-set, set}
-use borrow.Author.Tests.{eqb-true, eqb-false}
-use Rattle.rules.specs.Records.{Kind, leaf, join, dummy, Node, Output, Record, node, nodeAt, left-link, right-link, outputs}
+use Rattle.rules.specs.Records.{Kind, join, Node, Record, node, nodeAt, left-link, right-link, outputs}
 use Rattle.rules.specs.Totalizer.{counts, joining}
 use Rattle.rules.specs.Refinement.{relink}
-use Rattle.rules.specs.WellFormed.{above}
-use Rattle.laws.specs.Facts.{All, All-map, All-set, occurs, occurs-here, occurs-other, occurs-none, occurs-more, All-occurs}
+use Rattle.laws.specs.Facts.{All, All-map, All-set, occurs, occurs-here, occurs-none, occurs-more}
 use Rattle.laws.specs.Places.{place, place-inside, nodeAt-set, nodeAt-set-other, place-set, outputs-set}
 use Rattle.laws.specs.Formed.{Ruled, Sound, Spares, Linked}
 use Rattle.laws.specs.Grows.{ruled-join, ruled-same}
@@ -26,7 +23,8 @@ first (x ∷ xs) d = x
 unfoldable pub climb : List Record → ℕ → List ℕ → List Record
 unfolding joining nodeAt left-link
 climb rs below [] = rs
-climb rs below (b ∷ bs) = set (climb rs below bs) b (node (joining (climb rs below bs) true (left-link (nodeAt (climb rs below bs) b .kind)) (first bs below)))
+climb rs below (b ∷ bs) = set (climb rs below bs) b
+    (node (joining (climb rs below bs) true (left-link (nodeAt (climb rs below bs) b .kind)) (first bs below)))
 
 last-of : List ℕ → ℕ → ℕ
 last-of [] d = d
@@ -43,7 +41,8 @@ last-reverse [] d = refl
 last-reverse (b ∷ bs) d = ap (λ (t : List ℕ). last-of t d) (reverse-cons b bs) ∙ last-snoc (reverse bs) b d
 
 relink-snoc : (rs : List Record) (below : ℕ) (xs : List ℕ) (b : ℕ) →
-    relink rs below (xs ++ (b ∷ [])) ≡ set (relink rs below xs) b (node (joining (relink rs below xs) true (left-link (nodeAt (relink rs below xs) b .kind)) (last-of xs below)))
+    relink rs below (xs ++ (b ∷ [])) ≡ set (relink rs below xs) b
+    (node (joining (relink rs below xs) true (left-link (nodeAt (relink rs below xs) b .kind)) (last-of xs below)))
 unfolding relink last-of
 relink-snoc rs below [] b = refl
 relink-snoc rs below (x ∷ xs) b = relink-snoc (set rs x (node (joining rs true (left-link (nodeAt rs x .kind)) below))) x xs b
@@ -54,31 +53,37 @@ relink-climb rs below [] = refl
 relink-climb rs below (b ∷ bs) =
     ap (relink rs below) (reverse-cons b bs) ∙
     (relink-snoc rs below (reverse bs) b ∙
-    ap₂ (λ (t : List Record) (n : ℕ). set t b (node (joining t true (left-link (nodeAt t b .kind)) n))) (relink-climb rs below bs) (last-reverse bs below))
+    ap₂ (λ (t : List Record) (n : ℕ). set t b (node (joining t true (left-link (nodeAt t b .kind)) n))) (relink-climb rs below bs)
+    (last-reverse bs below))
 
 -- buckets in a chain are joins, and their heights fall
-pub linked-joins : (at : ℕ → Node) (wait : Bool) (bs : List ℕ) → Linked at wait bs → All (λ b. (half : Bool) × (l : ℕ) × (r : ℕ) × (at b .kind ≡ join half l r)) bs
+pub linked-joins : (at : ℕ → Node) (wait : Bool) (bs : List ℕ) → Linked at wait bs →
+    All (λ b. (half : Bool) × (l : ℕ) × (r : ℕ) × (at b .kind ≡ join half l r)) bs
 linked-joins at wait [] h = tt
 linked-joins at true (b ∷ []) h = ((true, h .0, h .1, h .2), tt)
 linked-joins at false (b ∷ []) h = ((h .0, h .1, h .2, h .3), tt)
 linked-joins at wait (b ∷ c ∷ bs) h = ((true, h .0 .0, c, h .0 .1), linked-joins at wait (c ∷ bs) (h .1))
 
-pub heights-fall : (at : ℕ → Node) (pl : ℕ → Bool) → Sound at pl → (wait : Bool) (b : ℕ) (bs : List ℕ) → Linked at wait (b ∷ bs) → All (λ c. at c .height < at b .height) bs
+pub heights-fall : (at : ℕ → Node) (pl : ℕ → Bool) → Sound at pl → (wait : Bool) (b : ℕ) (bs : List ℕ) → Linked at wait (b ∷ bs) →
+    All (λ c. at c .height < at b .height) bs
 heights-fall at pl s wait b [] h = tt
 heights-fall at pl s wait b (c ∷ bs) h =
     let up : at b .height ≡ suc (max (at (h .0 .0) .height) (at c .height)) = s b .height-is true (h .0 .0) c (h .0 .1) in
     (omega arith, All-map (λ d (k : at d .height < at c .height). omega arith) bs (heights-fall at pl s wait c bs (h .1)))
 
 -- so no bucket stands twice
-pub linked-once : (at : ℕ → Node) (pl : ℕ → Bool) → Sound at pl → (wait : Bool) (b : ℕ) (bs : List ℕ) → Linked at wait (b ∷ bs) → occurs b bs ≡ 0
-linked-once at pl s wait b bs h = occurs-none (λ c. at c .height < at b .height) b bs (heights-fall at pl s wait b bs h) (λ (k : at b .height < at b .height). omega arith)
+pub linked-once : (at : ℕ → Node) (pl : ℕ → Bool) → Sound at pl → (wait : Bool) (b : ℕ) (bs : List ℕ) → Linked at wait (b ∷ bs) →
+    occurs b bs ≡ 0
+linked-once at pl s wait b bs h = occurs-none (λ c. at c .height < at b .height) b bs (heights-fall at pl s wait b bs h)
+    (λ (k : at b .height < at b .height). omega arith)
 
 -- a chain without its first bucket
 pub linked-rest : (at : ℕ → Node) (wait : Bool) (b : ℕ) (bs : List ℕ) → Linked at wait (b ∷ bs) → Linked at wait bs
 linked-rest at wait b [] h = tt
 linked-rest at wait b (c ∷ bs) h = h .1
 
-module _ (rs : List Record) (B : List ℕ) (below : ℕ) (sound : Sound (nodeAt rs) (place rs)) (spares : Spares (nodeAt rs) B) (below-there : place rs below ≡ true) (below-apart : occurs below B ≡ 0) where
+module _ (rs : List Record) (B : List ℕ) (below : ℕ) (sound : Sound (nodeAt rs) (place rs)) (spares : Spares (nodeAt rs) B)
+    (below-there : place rs below ≡ true) (below-apart : occurs below B ≡ 0) where
   abbrev left-of : ℕ → ℕ
   left-of b = left-link (nodeAt rs b .kind)
 
@@ -156,7 +161,8 @@ module _ (rs : List Record) (B : List ℕ) (below : ℕ) (sound : Sound (nodeAt 
     next-other : next ≢ b
     enough : nodeAt rs b .maximum ≤ nodeAt rs (left-of b) .maximum + nodeAt R next .maximum / 2
 
-  under : (R : List Record) (b : ℕ) (bs : List ℕ) → Climbed bs R → occurs b bs ≡ 0 → 1 ≤ occurs b B → All (λ c. place rs c ≡ true) bs → All (λ c. 1 ≤ occurs c B) bs → Linked (nodeAt rs) true (b ∷ bs) → Under R b (first bs below)
+  under : (R : List Record) (b : ℕ) (bs : List ℕ) → Climbed bs R → occurs b bs ≡ 0 → 1 ≤ occurs b B → All (λ c. place rs c ≡ true) bs →
+      All (λ c. 1 ≤ occurs c B) bs → Linked (nodeAt rs) true (b ∷ bs) → Under R b (first bs below)
   unfolding left-link counts
   under R b [] c out mem there mems (l, r, k, d) =
       let m : nodeAt rs b .maximum ≡ nodeAt rs l .maximum + nodeAt rs r .maximum / 2 = sound b .maximum-is true l r k in
@@ -184,8 +190,10 @@ module _ (rs : List Record) (B : List ℕ) (below : ℕ) (sound : Sound (nodeAt 
         enough = omega (arith, m, e, c .steps .0 .grows);
       }
 
-  climb-on : (b : ℕ) (bs : List ℕ) (R : List Record) → Climbed bs R → Linked (nodeAt rs) true (b ∷ bs) → place rs b ≡ true → All (λ c. place rs c ≡ true) bs → 1 ≤ occurs b B → All (λ c. 1 ≤ occurs c B) bs →
-      nodeAt rs (left-of b) .maximum ≤ 257 → Climbed (b ∷ bs) (set R b (node (joining R true (left-link (nodeAt R b .kind)) (first bs below))))
+  climb-on : (b : ℕ) (bs : List ℕ) (R : List Record) → Climbed bs R → Linked (nodeAt rs) true (b ∷ bs) → place rs b ≡ true →
+      All (λ c. place rs c ≡ true) bs → 1 ≤ occurs b B → All (λ c. 1 ≤ occurs c B) bs →
+      nodeAt rs (left-of b) .maximum ≤ 257 → Climbed (b ∷ bs)
+      (set R b (node (joining R true (left-link (nodeAt R b .kind)) (first bs below))))
   unfolding joining counts
   climb-on b bs R c chain there thens mem mems few =
       let next : ℕ = first bs below in
@@ -207,11 +215,14 @@ module _ (rs : List Record) (B : List ℕ) (below : ℕ) (sound : Sound (nodeAt 
       let at-b : nodeAt R′ b ≡ nd = nodeAt-set R b nd (place-inside R b b-there) in
       let p : place R′ ≡ place R = place-set R b nd b-there in
       let sum : nodeAt R l .maximum ≡ nodeAt rs (left-of b) .maximum = ap (λ (x : Node). x .maximum) l-same in
-      let ruled : Ruled (nodeAt R) (place R) nd = ruled-join (nodeAt R) (place R) nd true l next refl refl refl l-there n-there (omega (arith, few, u .next-most)) in
+      let ruled : Ruled (nodeAt R) (place R) nd = ruled-join (nodeAt R) (place R) nd true l next refl refl refl l-there n-there
+      (omega (arith, few, u .next-most)) in
       let ruled′ : Ruled (nodeAt R′) (place R′) nd =
       ruled-join (nodeAt R′) (place R′) nd true l next refl
-      (ap₂ (λ (x y : Node). suc (max (x .height) (y .height))) (sym (nodeAt-set-other R b l (node nd) l-ne)) (sym (nodeAt-set-other R b next (node nd) (u .next-other))))
-      (ap₂ (λ (x y : Node). x .maximum + y .maximum / 2) (sym (nodeAt-set-other R b l (node nd) l-ne)) (sym (nodeAt-set-other R b next (node nd) (u .next-other))))
+      (ap₂ (λ (x y : Node). suc (max (x .height) (y .height))) (sym (nodeAt-set-other R b l (node nd) l-ne))
+      (sym (nodeAt-set-other R b next (node nd) (u .next-other))))
+      (ap₂ (λ (x y : Node). x .maximum + y .maximum / 2) (sym (nodeAt-set-other R b l (node nd) l-ne))
+      (sym (nodeAt-set-other R b next (node nd) (u .next-other))))
       (ap (λ (f : ℕ → Bool). f l) p ∙ l-there) (ap (λ (f : ℕ → Bool). f next) p ∙ n-there) (ruled .within) in
       record {
         same = λ i h. other i h (nd);
@@ -235,8 +246,18 @@ module _ (rs : List Record) (B : List ℕ) (below : ℕ) (sound : Sound (nodeAt 
           nodeAt-set-other R b i (node nd) ne ∙ c .same i (omega (arith, h, occurs-more i b bs))
 
   -- the whole chain brought up to date
-  pub climbed : (bs : List ℕ) → Linked (nodeAt rs) true bs → All (λ c. place rs c ≡ true) bs → All (λ c. 1 ≤ occurs c B) bs → All (λ c. nodeAt rs (left-of c) .maximum ≤ 257) bs → Climbed bs (climb rs below bs)
+  pub climbed : (bs : List ℕ) → Linked (nodeAt rs) true bs → All (λ c. place rs c ≡ true) bs → All (λ c. 1 ≤ occurs c B) bs →
+      All (λ c. nodeAt rs (left-of c) .maximum ≤ 257) bs → Climbed bs (climb rs below bs)
   unfolding climb
-  climbed [] chain there mems few = record { same = λ i h. refl; places = refl; outputs-same = refl; size = refl; kept = λ P f h. h; steps = tt }
+  climbed [] chain there mems few = record {
+    same = λ i h. refl;
+    places = refl;
+    outputs-same = refl;
+    size = refl;
+    kept = λ P f h. h;
+    steps =
+        tt;
+  }
   climbed (b ∷ bs) chain there mems few =
-      climb-on b bs (climb rs below bs) (climbed bs (linked-rest (nodeAt rs) true b bs chain) (there .1) (mems .1) (few .1)) chain (there .0) (there .1) (mems .0) (mems .1) (few .0)
+      climb-on b bs (climb rs below bs) (climbed bs (linked-rest (nodeAt rs) true b bs chain) (there .1) (mems .1) (few .1)) chain
+      (there .0) (there .1) (mems .0) (mems .1) (few .0)

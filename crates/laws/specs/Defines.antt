@@ -1,12 +1,14 @@
 -- Defining changes no node, and its fuel is enough. Assumes nothing.
 use mathlib.Core.Path.{_≡_, refl, sym, _∙_, ap}
-use mathlib.Core.Bool.{Bool}
+use mathlib.Core.Bool.{Bool, true}
 use mathlib.Core.List.{List, [], _∷_, _++_, map}
 use Prim.Native.Nat.{ℕ, zero, suc, _-_, _≤_, _<_, min, max}
 use native.Mathlib.Omega.{arith}
-use Rattle.rules.specs.Lists.{in-turn}
-use Rattle.rules.specs.Records.{Kind, leaf, join, dummy, Node, Output, Record, node, output, nodeAt}
-use Rattle.rules.specs.Totalizer.{Arena, counts, asks, write, take-number, Define, ask, ask-pair, define-join, define-kind, define, pairs, pairs-from, number-of}
+use lib.Dec.{eqb}
+use Rattle.rules.specs.Lists.{in-turn, keep}
+use Rattle.rules.specs.Refinement.{further-pairs, former-half, extend, extend-bucket}
+use Rattle.rules.specs.Records.{left-link, right-link, outputs, Kind, leaf, join, dummy, Node, Output, Record, node, output, nodeAt}
+use Rattle.rules.specs.Totalizer.{Arena, counts, asks, write, take-number, Define, ask, ask-pair, define-join, define-kind, define, define-output, pairs, pairs-from, number-of}
 use Rattle.laws.specs.Facts.{All}
 use Rattle.laws.specs.Places.{place, nodes-same, places-same, output-none}
 use Rattle.laws.specs.Formed.{Sound}
@@ -22,7 +24,10 @@ in-turn-keeps P Q f h s (x ∷ xs) a p = in-turn-keeps P Q f h (f s x) xs (a .1)
 pairs-from-within : (k a v left right : ℕ) → v - right ≤ a → k ≤ suc left - a → All (λ p. (p .0 ≤ left) × (p .1 ≤ right)) (pairs-from k a v)
 unfolding pairs-from
 pairs-from-within zero a v left right h i = tt
-pairs-from-within (suc k) a v left right h i = ((omega arith, omega arith), pairs-from-within k (suc a) v left right (omega arith) (omega arith))
+pairs-from-within (suc k) a v left right h i = (
+  (omega arith, omega arith),
+  pairs-from-within k (suc a) v left right (omega arith) (omega arith),
+)
 
 pub pairs-within : (left right v : ℕ) → All (λ p. (p .0 ≤ left) × (p .1 ≤ right)) (pairs left right v)
 unfolding pairs
@@ -36,23 +41,83 @@ pub record Over (at : ℕ → Node) (pl : ℕ → Bool) (s : Arena) : Type 0 whe
   pub place-is : place (s .records) ≡ pl
 
 -- nodes are as they were when outputs are appended
-pub over-outputs : (rs : List Record) (os : List Output) → (nodeAt (rs ++ map output os) ≡ nodeAt rs) × (place (rs ++ map output os) ≡ place rs)
+pub over-outputs : (rs : List Record) (os : List Output) → (nodeAt (rs ++ map output os) ≡ nodeAt rs) ×
+    (place (rs ++ map output os) ≡ place rs)
 over-outputs rs os = (nodes-same rs (map output os) (output-none os), places-same rs (map output os) (output-none os))
 
-module _ (at : ℕ → Node) (pl : ℕ → Bool) where
-  -- a rule of defining that changes no node
-  abbrev pub Steady : Define → Type 0
-  Steady d = (s : Arena) (n v : ℕ) → Over at pl s → Over at pl (d s n v)
+-- what writing clauses and taking a number keep, all defining keeps
+module _ (P : Arena → Type 0) (on-write : (half : Bool) (l r number : ℕ) (ps : List (ℕ × ℕ)) (s : Arena) → P s →
+    P (write half l r number ps s))
+    (on-take : (n v : ℕ) (s : Arena) → P s → P (take-number n v s)) where
+  -- a rule of defining that keeps it
+  abbrev pub Keeps : Define → Type 0
+  Keeps d = (s : Arena) (n v : ℕ) → P s → P (d s n v)
 
-  over-ask : (d : Define) → Steady d → (s : Arena) (n v : ℕ) → Over at pl s → Over at pl (ask d s n v)
+  pub ask-keeps : (d : Define) → Keeps d → (s : Arena) (n v : ℕ) → P s → P (ask d s n v)
   unfolding ask
-  over-ask d h s n zero o = o
-  over-ask d h s n (suc v) o = h s n (suc v) o
+  ask-keeps d h s n zero o = o
+  ask-keeps d h s n (suc v) o = h s n (suc v) o
 
-  over-ask-pair : (d : Define) → Steady d → (half : Bool) (l r : ℕ) (s : Arena) (p : ℕ × ℕ) → Over at pl s → Over at pl (ask-pair d half l r s p)
+  pub pair-keeps : (d : Define) → Keeps d → (half : Bool) (l r : ℕ) (s : Arena) (p : ℕ × ℕ) → P s → P (ask-pair d half l r s p)
   unfolding ask-pair
-  over-ask-pair d h half l r s p o = over-ask d h (ask d s l (p .0)) r (asks half (p .1)) (over-ask d h s l (p .0) o)
+  pair-keeps d h half l r s p o = ask-keeps d h (ask d s l (p .0)) r (asks half (p .1)) (ask-keeps d h s l (p .0) o)
 
+  pub pairs-keep : (d : Define) → Keeps d → (half : Bool) (l r : ℕ) (s : Arena) (ps : List (ℕ × ℕ)) → P s →
+      P (in-turn (ask-pair d half l r) s ps)
+  unfolding in-turn
+  pairs-keep d h half l r s [] o = o
+  pairs-keep d h half l r s (p ∷ ps) o = pairs-keep d h half l r (ask-pair d half l r s p) ps (pair-keeps d h half l r s p o)
+
+  join-keeps : (d : Define) → Keeps d → (n v : ℕ) (half : Bool) (l r : ℕ) (ps : List (ℕ × ℕ)) (number : ℕ) (s : Arena) → P s →
+      P (define-join d n v half l r ps number s)
+  unfolding define-join
+  join-keeps d h n v half l r ps zero s o =
+      let t : Arena = in-turn (ask-pair d half l r) s ps in
+      on-take n v (write half l r (t .fresh) ps t) (on-write half l r (t .fresh) ps t (pairs-keep d h half l r s ps o))
+  join-keeps d h n v half l r ps (suc number) s o = o
+
+  kind-keeps : (d : Define) → Keeps d → (n v : ℕ) (k : Kind) (s : Arena) → P s → P (define-kind d n v k s)
+  unfolding define-kind
+  kind-keeps d h n v (leaf x) s o = o
+  kind-keeps d h n v (join half l r) s o =
+      join-keeps d h n v half l r (pairs (nodeAt (s .records) l .maximum) (counts half (nodeAt (s .records) r .maximum)) v)
+      (number-of (s .records) n v) s o
+  kind-keeps d h n v dummy s o = o
+
+  pub define-keeps : (f : ℕ) → Keeps (define f)
+  unfolding define
+  define-keeps zero s n v o = o
+  define-keeps (suc f) s n v o = kind-keeps (define f) (define-keeps f) n v (nodeAt (s .records) n .kind) s o
+
+  pub extend-keeps : (n most : ℕ) (s : Arena) (o : Output) → P s → P (extend n most s o)
+  unfolding extend
+  extend-keeps n most s o p =
+      let k : Kind = nodeAt (s .records) n .kind in
+      let ps : List (ℕ × ℕ) = further-pairs (s .records) n most (o .value) in
+      let t : Arena = in-turn (ask-pair (define (nodeAt (s .records) n .height)) true (left-link k) (right-link k)) s ps in
+      on-write true (left-link k) (right-link k) (o .number) ps t
+      (pairs-keep (define (nodeAt (s .records) n .height)) (define-keeps (nodeAt (s .records) n .height)) true (left-link k)
+      (right-link k) s ps p)
+
+  pub extend-bucket-keeps : (old : List Record) (s : Arena) (n : ℕ) → P s → P (extend-bucket old s n)
+  unfolding extend-bucket
+  extend-bucket-keeps old s n p = turns (keep (λ o. eqb (o .node) n) (outputs old)) s p
+    where
+      turns : (os : List Output) (s : Arena) → P s → P (in-turn (extend n (former-half old n)) s os)
+      turns [] s p = p
+      turns (o ∷ os) s p = turns os (extend n (former-half old n) s o) (extend-keeps n (former-half old n) s o p)
+
+-- the next fresh number never falls
+pub fresh-write : (k : ℕ) (half : Bool) (l r number : ℕ) (ps : List (ℕ × ℕ)) (s : Arena) → k ≤ s .fresh →
+    k ≤ write half l r number ps s .fresh
+unfolding write
+fresh-write k half l r number ps s h = h
+
+pub fresh-take : (k n v : ℕ) (s : Arena) → k ≤ s .fresh → k ≤ take-number n v s .fresh
+unfolding take-number
+fresh-take k n v s h = omega arith
+
+module _ (at : ℕ → Node) (pl : ℕ → Bool) where
   pub over-write : (half : Bool) (l r number : ℕ) (ps : List (ℕ × ℕ)) (s : Arena) → Over at pl s → Over at pl (write half l r number ps s)
   unfolding write
   over-write half l r number ps s o = record { at-is = o .at-is; place-is = o .place-is }
@@ -63,31 +128,13 @@ module _ (at : ℕ → Node) (pl : ℕ → Bool) where
       let one : List Output = record { node = n; value = v; number = s .fresh } ∷ [] in
       record { at-is = over-outputs (s .records) one .0 ∙ o .at-is; place-is = over-outputs (s .records) one .1 ∙ o .place-is }
 
-  pub over-pairs : (d : Define) → Steady d → (half : Bool) (l r : ℕ) (s : Arena) (ps : List (ℕ × ℕ)) → Over at pl s → Over at pl (in-turn (ask-pair d half l r) s ps)
-  unfolding in-turn
-  over-pairs d h half l r s [] o = o
-  over-pairs d h half l r s (p ∷ ps) o = over-pairs d h half l r (ask-pair d half l r s p) ps (over-ask-pair d h half l r s p o)
-
-  over-join : (d : Define) → Steady d → (n v : ℕ) (half : Bool) (l r : ℕ) (ps : List (ℕ × ℕ)) (number : ℕ) (s : Arena) →
-      Over at pl s → Over at pl (define-join d n v half l r ps number s)
-  unfolding define-join
-  over-join d h n v half l r ps zero s o =
-      let t : Arena = in-turn (ask-pair d half l r) s ps in
-      over-take n v (write half l r (t .fresh) ps t) (over-write half l r (t .fresh) ps t (over-pairs d h half l r s ps o))
-  over-join d h n v half l r ps (suc number) s o = o
-
-  over-kind : (d : Define) → Steady d → (n v : ℕ) (k : Kind) (s : Arena) → Over at pl s → Over at pl (define-kind d n v k s)
-  unfolding define-kind
-  over-kind d h n v (leaf x) s o = o
-  over-kind d h n v (join half l r) s o =
-      over-join d h n v half l r (pairs (nodeAt (s .records) l .maximum) (counts half (nodeAt (s .records) r .maximum)) v) (number-of (s .records) n v) s o
-  over-kind d h n v dummy s o = o
+  -- a rule of defining that changes no node
+  abbrev pub Steady : Define → Type 0
+  Steady d = (s : Arena) (n v : ℕ) → Over at pl s → Over at pl (d s n v)
 
   -- defining changes no node
   pub define-steady : (f : ℕ) → Steady (define f)
-  unfolding define
-  define-steady zero s n v o = o
-  define-steady (suc f) s n v o = over-kind (define f) (define-steady f) n v (nodeAt (s .records) n .kind) s o
+  define-steady f = define-keeps (Over at pl) over-write over-take f
 
   module _ (sound : Sound at pl) where
     -- two rules of defining that agree on nodes of height below k
@@ -105,9 +152,10 @@ module _ (at : ℕ → Node) (pl : ℕ → Bool) where
     agree-pairs k d e h steady half l r i j s [] o = refl
     agree-pairs k d e h steady half l r i j s (p ∷ ps) o =
         let here : ask-pair d half l r s p ≡ ask-pair e half l r s p =
-        agree-ask k d e h (ask d s l (p .0)) r (asks half (p .1)) (over-ask d steady s l (p .0) o) j ∙
+        agree-ask k d e h (ask d s l (p .0)) r (asks half (p .1)) (ask-keeps (Over at pl) over-write over-take d steady s l (p .0) o) j ∙
         ap (λ (t : Arena). ask e t r (asks half (p .1))) (agree-ask k d e h s l (p .0) o i) in
-        agree-pairs k d e h steady half l r i j (ask-pair d half l r s p) ps (over-ask-pair d steady half l r s p o) ∙
+        agree-pairs k d e h steady half l r i j (ask-pair d half l r s p) ps
+        (pair-keeps (Over at pl) over-write over-take d steady half l r s p o) ∙
         ap (λ (t : Arena). in-turn (ask-pair e half l r) t ps) here
 
     agree-kind : (k : ℕ) (d e : Define) → Agree k d e → Steady d → (s : Arena) (n v : ℕ) → Over at pl s → at n .height ≤ k →
@@ -144,5 +192,14 @@ module _ (at : ℕ → Node) (pl : ℕ → Bool) where
     define-fuel zero (suc g) s n v o i j = sym (flat (define g) s n v i (nodeAt (s .records) n .kind) (kind-is s n o))
     define-fuel (suc f) zero s n v o i j = flat (define f) s n v j (nodeAt (s .records) n .kind) (kind-is s n o)
     define-fuel (suc f) (suc g) s n v o i j =
-        agree-kind (at n .height) (define f) (define g) (λ t m w p k. define-fuel f g t m w p (omega arith) (omega arith)) (define-steady f) s n v o (omega arith)
+        agree-kind (at n .height) (define f) (define g) (λ t m w p k. define-fuel f g t m w p (omega arith) (omega arith)) (define-steady f)
+        s n v o (omega arith)
         (nodeAt (s .records) n .kind) (kind-is s n o)
+
+-- so the height of a sound arena's node is fuel enough
+pub define-enough : (s : Arena) → Sound (nodeAt (s .records)) (place (s .records)) → (f n v : ℕ) → nodeAt (s .records) n .height ≤ f →
+    define f s n v ≡ define-output s n v
+unfolding define-output
+define-enough s sound f n v h =
+    define-fuel (nodeAt (s .records)) (place (s .records)) sound f (nodeAt (s .records) n .height) s n v
+    (record { at-is = refl; place-is = refl }) h (omega arith)

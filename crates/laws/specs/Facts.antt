@@ -8,13 +8,22 @@ use native.Mathlib.Omega.{arith}
 use lib.Dec.{eqb}
 use lib.ListN.{length, getD, set, drop}
 use borrow.Author.Tests.{eqb-true, eqb-false, eq-eqb, ne-eqb}
-use Rattle.rules.specs.Lists.{all, any, keep, among, distinct, total, rising}
+use Rattle.rules.specs.Lists.{all, keep, total, rising}
 use Rattle.laws.specs.Words.{both}
 
 -- tests that both hold
 pub and-true : {a b : Bool} → a ≡ true → b ≡ true → (a && b) ≡ true
 and-true {a = true} p q = q
 and-true {a = false} p q = absurd (false≢true p)
+
+-- one of two tests holds
+pub or-left : (a b : Bool) → a ≡ true → (a || b) ≡ true
+or-left true b e = refl
+or-left false b e = absurd (false≢true e)
+
+pub or-right : (a b : Bool) → b ≡ true → (a || b) ≡ true
+or-right true b e = refl
+or-right false b e = e
 
 -- neither of two tests holds
 pub neither : (a b : Bool) → (a || b) ≡ false → (a ≡ false) × (b ≡ false)
@@ -120,7 +129,8 @@ module _ {A : Type 0} where
   total-keep f p (x ∷ xs) = go (p x) (total-keep f p xs)
     where
       go : (b : Bool) → total (map f xs) ≡ total (map f (keep p xs)) + total (map f (keep (λ x. not (p x)) xs)) →
-          f x + total (map f xs) ≡ total (map f (cond b (x ∷ keep p xs) (keep p xs))) + total (map f (cond (not b) (x ∷ keep (λ x. not (p x)) xs) (keep (λ x. not (p x)) xs)))
+          f x + total (map f xs) ≡ total (map f (cond b (x ∷ keep p xs) (keep p xs))) + total
+          (map f (cond (not b) (x ∷ keep (λ x. not (p x)) xs) (keep (λ x. not (p x)) xs)))
       go true ih = omega arith
       go false ih = omega arith
 
@@ -218,64 +228,6 @@ All-self (x ∷ xs) =
     let more : (n : ℕ) → 1 ≤ occurs n xs → 1 ≤ occurs n (x ∷ xs) = λ n h. omega (arith, occurs-more n x xs) in
     (rw (eq-eqb x x refl) (omega arith), All-map more xs (All-self xs))
 
-pub among-occurs : (xs : List ℕ) (n : ℕ) → among xs n ≡ true → 1 ≤ occurs n xs
-unfolding among any occurs
-among-occurs [] n e = absurd (false≢true e)
-among-occurs (x ∷ xs) n e = go (eqb n x) refl e (among-occurs xs n)
-  where
-    go : (b : Bool) → eqb n x ≡ b → (b || any (eqb n) xs) ≡ true → (any (eqb n) xs ≡ true → 1 ≤ occurs n xs) → 1 ≤ cond b (suc (occurs n xs)) (occurs n xs)
-    go true q h ih = omega arith
-    go false q h ih = ih h
-
-pub occurs-among : (xs : List ℕ) (n : ℕ) → 1 ≤ occurs n xs → among xs n ≡ true
-unfolding among any occurs
-occurs-among [] n h = absurd (omega arith)
-occurs-among (x ∷ xs) n h = go (eqb n x) refl h (occurs-among xs n)
-  where
-    go : (b : Bool) → eqb n x ≡ b → 1 ≤ cond b (suc (occurs n xs)) (occurs n xs) → (1 ≤ occurs n xs → any (eqb n) xs ≡ true) → (b || any (eqb n) xs) ≡ true
-    go true q h ih = refl
-    go false q h ih = ih h
-
-pub not-among-occurs : (xs : List ℕ) (n : ℕ) → among xs n ≡ false → occurs n xs ≡ 0
-unfolding among any occurs
-not-among-occurs [] n e = refl
-not-among-occurs (x ∷ xs) n e =
-    let (here, rest) = neither (eqb n x) (any (eqb n) xs) e in
-    rw here (not-among-occurs xs n rest)
-
-pub occurs-not-among : (xs : List ℕ) (n : ℕ) → occurs n xs ≡ 0 → among xs n ≡ false
-unfolding among any occurs
-occurs-not-among [] n e = refl
-occurs-not-among (x ∷ xs) n e = go (eqb n x) refl e (occurs-not-among xs n)
-  where
-    go : (b : Bool) → eqb n x ≡ b → cond b (suc (occurs n xs)) (occurs n xs) ≡ 0 → (occurs n xs ≡ 0 → any (eqb n) xs ≡ false) → (b || any (eqb n) xs) ≡ false
-    go true q h ih = absurd (omega arith)
-    go false q h ih = ih h
-
--- no number stands twice exactly if each occurs at most once
-pub distinct-occurs : (xs : List ℕ) → distinct xs ≡ true → (n : ℕ) → occurs n xs ≤ 1
-unfolding distinct occurs
-distinct-occurs [] e n = omega arith
-distinct-occurs (x ∷ xs) e n =
-    let (here, rest) = both (not (among xs x)) (distinct xs) e in
-    go (eqb n x) refl (not-among-occurs xs x (not-yes (among xs x) here)) (distinct-occurs xs rest n)
-  where
-    go : (b : Bool) → eqb n x ≡ b → occurs x xs ≡ 0 → occurs n xs ≤ 1 → cond b (suc (occurs n xs)) (occurs n xs) ≤ 1
-    go true q none ih =
-        let e : occurs n xs ≡ 0 = rw (eqb-true n x q) none in
-        omega arith
-    go false q none ih = ih
-
-pub occurs-distinct : (xs : List ℕ) → ((n : ℕ) → occurs n xs ≤ 1) → distinct xs ≡ true
-unfolding distinct occurs
-occurs-distinct [] h = refl
-occurs-distinct (x ∷ xs) h =
-    let here : cond (eqb x x) (suc (occurs x xs)) (occurs x xs) ≤ 1 = h x in
-    let one : eqb x x ≡ true = eq-eqb x x refl in
-    let now : suc (occurs x xs) ≤ 1 = rw one at here in
-    let less : (n : ℕ) → occurs n xs ≤ 1 = λ n. omega (arith, h n, occurs-more n x xs) in
-    and-true (ap not (occurs-not-among xs x (omega arith))) (occurs-distinct xs less)
-
 -- a rising list
 pub rising-below : (n : ℕ) (k m : ℕ) → m < k → occurs m (rising n k) ≡ 0
 rising-below n k m h = occurs-none (λ i. k ≤ i) m (rising n k) (All-rising (λ i. k ≤ i) n k (λ i a b. a)) (λ (a : k ≤ m). omega arith)
@@ -285,7 +237,8 @@ unfolding rising occurs
 rising-once zero k m = omega arith
 rising-once (suc n) k m = go (eqb m k) refl (rising-once n (suc k) m)
   where
-    go : (b : Bool) → eqb m k ≡ b → occurs m (rising n (suc k)) ≤ 1 → cond b (suc (occurs m (rising n (suc k)))) (occurs m (rising n (suc k))) ≤ 1
+    go : (b : Bool) → eqb m k ≡ b → occurs m (rising n (suc k)) ≤ 1 →
+        cond b (suc (occurs m (rising n (suc k)))) (occurs m (rising n (suc k))) ≤ 1
     go true e ih =
         let is : m ≡ k = eqb-true m k e in
         omega (arith, rising-below n (suc k) m (omega arith))
@@ -295,3 +248,6 @@ pub rising-length : (n k : ℕ) → length (rising n k) ≡ n
 unfolding rising
 rising-length zero k = refl
 rising-length (suc n) k = omega (arith, rising-length n (suc k))
+
+pub rising-has : (n k i : ℕ) → k ≤ i → i < k + n → 1 ≤ occurs i (rising n k)
+rising-has n k i a b = rising-at (λ j. 1 ≤ occurs j (rising n k)) n k (All-self (rising n k)) i a b

@@ -70,7 +70,8 @@ ruled-join at pl nd half l r k height maximum left right bound =
           let ea : l ≡ a = ap left-link (sym k ∙ e) in
           let eb : r ≡ b = ap right-link (sym k ∙ e) in
           let eh : half ≡ h = ap half-of (sym k ∙ e) in
-          maximum ∙ (ap₂ (λ (x y : ℕ). at x .maximum + counts half (at y .maximum)) ea eb ∙ ap (λ (t : Bool). at a .maximum + counts t (at b .maximum)) eh);
+          maximum ∙ (ap₂ (λ (x y : ℕ). at x .maximum + counts half (at y .maximum)) ea eb ∙
+          ap (λ (t : Bool). at a .maximum + counts t (at b .maximum)) eh);
       leaf-is = λ x e. absurd (false≢true (ap is-leaf (sym k ∙ e)));
       dummy-is = λ e. absurd (false≢true (ap is-dummy (sym k ∙ e)));
       within = bound;
@@ -78,11 +79,14 @@ ruled-join at pl nd half l r k height maximum left right bound =
 
 -- a node by the rule stays one where its links stay
 pub ruled-same : (at at′ : ℕ → Node) (pl pl′ : ℕ → Bool) (nd : Node) → Ruled at pl nd →
-    ((half : Bool) (l r : ℕ) → nd .kind ≡ join half l r → (at′ l ≡ at l) × (at′ r ≡ at r) × (pl′ l ≡ true) × (pl′ r ≡ true)) → Ruled at′ pl′ nd
+    ((half : Bool) (l r : ℕ) → nd .kind ≡ join half l r → (at′ l ≡ at l) × (at′ r ≡ at r) × (pl′ l ≡ true) × (pl′ r ≡ true)) →
+    Ruled at′ pl′ nd
 ruled-same at at′ pl pl′ nd h same = record {
   links-are = λ half l r e. (same half l r e .2, same half l r e .3);
-  height-is = λ half l r e. h .height-is half l r e ∙ ap₂ (λ (x y : Node). suc (max (x .height) (y .height))) (sym (same half l r e .0)) (sym (same half l r e .1));
-  maximum-is = λ half l r e. h .maximum-is half l r e ∙ ap₂ (λ (x y : Node). x .maximum + counts half (y .maximum)) (sym (same half l r e .0)) (sym (same half l r e .1));
+  height-is = λ half l r e. h .height-is half l r e ∙
+      ap₂ (λ (x y : Node). suc (max (x .height) (y .height))) (sym (same half l r e .0)) (sym (same half l r e .1));
+  maximum-is = λ half l r e. h .maximum-is half l r e ∙
+      ap₂ (λ (x y : Node). x .maximum + counts half (y .maximum)) (sym (same half l r e .0)) (sym (same half l r e .1));
   leaf-is = h .leaf-is;
   dummy-is = h .dummy-is;
   within = h .within;
@@ -92,11 +96,16 @@ pub ruled-more : (rs xs : List Record) (nd : Node) → Ruled (nodeAt rs) (place 
 ruled-more rs xs nd h =
     ruled-same (nodeAt rs) (nodeAt (rs ++ xs)) (place rs) (place (rs ++ xs)) nd h
     (λ half l r e.
-    let (left, right) = h .links-are half l r e in
-    (nodeAt-append rs xs l (place-inside rs l left), nodeAt-append rs xs r (place-inside rs r right), place-more rs xs l left, place-more rs xs r right))
+    let (left, right) = h .links-are half l r e in (
+      nodeAt-append rs xs l (place-inside rs l left),
+      nodeAt-append rs xs r (place-inside rs r right),
+      place-more rs xs l left,
+      place-more rs xs r right,
+    ))
 
 -- the place of an appended record holds it, later ones nothing
-pub at-snoc : (P : Node → Type 0) (rs : List Record) (nd : Node) → ((n : ℕ) → P (nodeAt rs n)) → P nd → P dummy-node → (n : ℕ) → P (nodeAt (rs ++ (node nd ∷ [])) n)
+pub at-snoc : (P : Node → Type 0) (rs : List Record) (nd : Node) → ((n : ℕ) → P (nodeAt rs n)) → P nd → P dummy-node → (n : ℕ) →
+    P (nodeAt (rs ++ (node nd ∷ [])) n)
 unfolding nodeAt node-of dummy-node
 at-snoc P rs nd old new none n = go (ltb n (length rs)) refl (eqb n (length rs)) refl
   where
@@ -123,7 +132,8 @@ grown-then rs rs′ rs″ g h = record {
   is-new =
       h .is-new ∙
       (ap (λ (t : List Record). t ++ map node (h .new)) (g .is-new) ∙
-      (append-assoc rs (map node (g .new)) (map node (h .new)) ∙ ap (λ (t : List Record). rs ++ t) (sym (map-append node (g .new) (h .new)))));
+      (append-assoc rs (map node (g .new)) (map node (h .new)) ∙
+      ap (λ (t : List Record). rs ++ t) (sym (map-append node (g .new) (h .new)))));
   sound = h .sound;
 }
 
@@ -139,7 +149,8 @@ grown-place rs rs′ g n h = ap (λ (t : List Record). place t n) (g .is-new) �
 pub grown-outputs : (rs rs′ : List Record) → Grown rs rs′ → outputs rs′ ≡ outputs rs
 unfolding outputs
 grown-outputs rs rs′ g =
-    ap outputs (g .is-new) ∙ (outputs-append rs (map node (g .new)) ∙ (ap (λ (t : List Output). outputs rs ++ t) (none (g .new)) ∙ append-nil (outputs rs)))
+    ap outputs (g .is-new) ∙ (outputs-append rs (map node (g .new)) ∙
+    (ap (λ (t : List Output). outputs rs ++ t) (none (g .new)) ∙ append-nil (outputs rs)))
   where
     none : (ns : List Node) → outputs (map node ns) ≡ []
     none [] = refl
@@ -152,13 +163,15 @@ grown-all P f rs rs′ g h = subst (λ (t : List Record). All P t) (sym (g .is-n
     every [] = tt
     every (n ∷ ns) = (f n, every ns)
 
-pub grown-one : (rs : List Record) (nd : Node) → Sound (nodeAt rs) (place rs) → Ruled (nodeAt rs) (place rs) nd → Grown rs (rs ++ (node nd ∷ []))
+pub grown-one : (rs : List Record) (nd : Node) → Sound (nodeAt rs) (place rs) → Ruled (nodeAt rs) (place rs) nd →
+    Grown rs (rs ++ (node nd ∷ []))
 grown-one rs nd s h = record {
   new = nd ∷ [];
   is-new = refl;
   sound =
       let xs : List Record = node nd ∷ [] in
-      at-snoc (Ruled (nodeAt (rs ++ xs)) (place (rs ++ xs))) rs nd (λ n. ruled-more rs xs (nodeAt rs n) (s n)) (ruled-more rs xs nd h) (ruled-dummy (nodeAt (rs ++ xs)) (place (rs ++ xs)));
+      at-snoc (Ruled (nodeAt (rs ++ xs)) (place (rs ++ xs))) rs nd (λ n. ruled-more rs xs (nodeAt rs n) (s n)) (ruled-more rs xs nd h)
+      (ruled-dummy (nodeAt (rs ++ xs)) (place (rs ++ xs)));
 }
 
 -- no link names n
@@ -166,7 +179,8 @@ abbrev pub Unnamed : (ℕ → Node) → ℕ → Type 0
 Unnamed at n = (i : ℕ) (half : Bool) (l r : ℕ) → at i .kind ≡ join half l r → (l ≢ n) × (r ≢ n)
 
 -- the newest node is named by none
-pub newest-unnamed : (rs : List Record) (nd : Node) → Sound (nodeAt rs) (place rs) → Ruled (nodeAt rs) (place rs) nd → Unnamed (nodeAt (rs ++ (node nd ∷ []))) (length rs)
+pub newest-unnamed : (rs : List Record) (nd : Node) → Sound (nodeAt rs) (place rs) → Ruled (nodeAt rs) (place rs) nd →
+    Unnamed (nodeAt (rs ++ (node nd ∷ []))) (length rs)
 newest-unnamed rs nd s h =
     at-snoc (λ x. (half : Bool) (l r : ℕ) → x .kind ≡ join half l r → (l ≢ length rs) × (r ≢ length rs)) rs nd
     (λ n half l r e. apart l r (s n .links-are half l r e)) (λ half l r e. apart l r (h .links-are half l r e))
@@ -188,14 +202,17 @@ spares-one rs nd A s h i half l r e = go (ltb i (length rs)) refl (eqb i (length
     xs : List Record
     xs = node nd ∷ []
 
-    go : (a : Bool) → ltb i (length rs) ≡ a → (b : Bool) → eqb i (length rs) ≡ b → (occurs l A ≡ 0) × ((occurs r A ≡ 0) ⊎ (above A i r ≡ true))
+    go : (a : Bool) → ltb i (length rs) ≡ a → (b : Bool) → eqb i (length rs) ≡ b → (occurs l A ≡ 0) ×
+        ((occurs r A ≡ 0) ⊎ (above A i r ≡ true))
     go true p b q = s i half l r (ap (λ (x : Node). x .kind) (sym (nodeAt-append rs (node nd ∷ []) i (ltb-true _ _ p))) ∙ e)
     go false p true q =
         let is : i ≡ length rs = eqb-true i (length rs) q in
-        let k : nd .kind ≡ join half l r = ap (λ (x : Node). x .kind) (sym (ap (nodeAt (rs ++ (node nd ∷ []))) is ∙ nodeAt-last rs nd [])) ∙ e in
+        let k : nd .kind ≡ join half l r = ap (λ (x : Node). x .kind) (sym (ap (nodeAt (rs ++ (node nd ∷ []))) is ∙ nodeAt-last rs nd [])) ∙
+        e in
         subst (λ (j : ℕ). (occurs l A ≡ 0) × ((occurs r A ≡ 0) ⊎ (above A j r ≡ true))) (sym is) (h half l r k)
     go false p false q =
-        let there : i < length (rs ++ (node nd ∷ [])) = place-inside (rs ++ (node nd ∷ [])) i (join-place (rs ++ (node nd ∷ [])) i half l r e) in
+        let there : i < length (rs ++ (node nd ∷ [])) =
+        place-inside (rs ++ (node nd ∷ [])) i (join-place (rs ++ (node nd ∷ [])) i half l r e) in
         let low : length rs ≤ i = ltb-false i (length rs) p in
         let ne : i ≢ length rs = eqb-false i (length rs) q in
         absurd (omega (arith, length-append rs (node nd ∷ [])))

@@ -30,7 +30,8 @@ pub record Merged (rs : List Record) (ms : List ℕ) (r : List Record × ℕ) : 
   pub grown : Grown rs (r .0)
   pub there : place (r .0) (r .1) ≡ true
   pub sum-is : nodeAt (r .0) (r .1) .maximum ≡ maxima rs ms
-  pub spared : (A : List ℕ) → All (λ a. a < length rs) A → All (λ m. occurs m A ≡ 0) ms → Spares (nodeAt rs) A → Spares (nodeAt (r .0)) A × (occurs (r .1) A ≡ 0)
+  pub spared : (A : List ℕ) → All (λ a. a < length rs) A → All (λ m. occurs m A ≡ 0) ms → Spares (nodeAt rs) A → Spares (nodeAt (r .0)) A ×
+      (occurs (r .1) A ≡ 0)
 
 -- what it makes of two or more: a new join that no link names
 pub record Crowned (rs : List Record) (ms : List ℕ) (r : List Record × ℕ) : Type 0 where
@@ -75,9 +76,6 @@ joined rs half l r s a b h =
 
 module _ (rs : List Record) (xs ys : List ℕ) (a c : List Record × ℕ) (m : Merged rs xs a) (n : Merged (a .0) ys c)
     (iy : All (λ m. place rs m ≡ true) ys) (few : maxima rs (xs ++ ys) ≤ 513) where
-  abbrev both-maxima : ℕ
-  both-maxima = maxima rs (xs ++ ys)
-
   all-grown : Grown rs (c .0)
   all-grown = grown-then rs (a .0) (c .0) (m .grown) (n .grown)
 
@@ -103,9 +101,13 @@ module _ (rs : List Record) (xs ys : List ℕ) (a c : List Record × ℕ) (m : M
         (ap₂ (λ x y. x + y) left-is right-part ∙ sym (total-append (λ (m : ℕ). nodeAt rs m .maximum) xs ys));
     spared = λ A below avoid s.
         let first : Spares (nodeAt (a .0)) A × (occurs (a .1) A ≡ 0) = m .spared A below (All-first (λ m. occurs m A ≡ 0) xs ys avoid) s in
-        let second : Spares (nodeAt (c .0)) A × (occurs (c .1) A ≡ 0) = n .spared A (avoid-later rs (a .0) (m .grown) A below) (All-second (λ m. occurs m A ≡ 0) xs ys avoid) (first .0) in (
+        let second : Spares (nodeAt (c .0)) A × (occurs (c .1) A ≡ 0) =
+        n .spared A (avoid-later rs (a .0) (m .grown) A below) (All-second (λ m. occurs m A ≡ 0) xs ys avoid) (first .0) in (
           spares-one (c .0) (joining (c .0) false (a .1) (c .1)) A (second .0)
-              (λ half l r e. (ap (λ k. occurs k A) (sym (ap left-link e)) ∙ first .1, inl (ap (λ k. occurs k A) (sym (ap right-link e)) ∙ second .1))),
+              (λ half l r e. (
+                ap (λ k. occurs k A) (sym (ap left-link e)) ∙ first .1,
+                inl (ap (λ k. occurs k A) (sym (ap right-link e)) ∙ second .1),
+              )),
           not-among-later (length rs) (length (c .0)) A below (grown-length rs (c .0) all-grown),
         );
   }
@@ -122,7 +124,8 @@ module _ (rs : List Record) (xs ys : List ℕ) (a c : List Record × ℕ) (m : M
         unnamed = join-of .unnamed;
         fresh = grown-length rs (c .0) all-grown;
         left-most =
-            let e : nodeAt rs′ (a .1) .maximum ≡ maxima rs xs = ap (λ (x : Node). x .maximum) (grown-at (c .0) rs′ (join-of .grown) (a .1) left-in) ∙ left-is in
+            let e : nodeAt rs′ (a .1) .maximum ≡ maxima rs xs =
+            ap (λ (x : Node). x .maximum) (grown-at (c .0) rs′ (join-of .grown) (a .1) left-in) ∙ left-is in
             omega (arith, e, total-append (λ (m : ℕ). nodeAt rs m .maximum) xs ys);
         right-is =
             ap (λ (x : Node). x .maximum) (grown-at (c .0) rs′ (join-of .grown) (c .1) (place-inside (c .0) (c .1) (n .there))) ∙
@@ -130,13 +133,16 @@ module _ (rs : List Record) (xs ys : List ℕ) (a c : List Record × ℕ) (m : M
       }
 
 -- merging with fuel enough
-pub merge-by-made : (f : ℕ) (rs : List Record) (ms : List ℕ) → Sound (nodeAt rs) (place rs) → All (λ m. place rs m ≡ true) ms → 1 ≤ length ms → length ms ≤ f → maxima rs ms ≤ 513 →
+pub merge-by-made : (f : ℕ) (rs : List Record) (ms : List ℕ) → Sound (nodeAt rs) (place rs) → All (λ m. place rs m ≡ true) ms →
+    1 ≤ length ms → length ms ≤ f → maxima rs ms ≤ 513 →
     Merged rs ms (merge-by f rs ms) × (2 ≤ length ms → Crowned rs ms (merge-by f rs ms))
 unfolding merge-by total
 merge-by-made zero rs ms s a p q few = absurd (omega arith)
 merge-by-made (suc f) rs [] s a p q few = absurd (omega arith)
-merge-by-made (suc f) rs (m ∷ []) s a p q few =
-    (record { grown = grown-self rs s; there = a .0; sum-is = omega arith; spared = λ A below avoid h. (h, avoid .0) }, (λ two. absurd (omega arith)))
+merge-by-made (suc f) rs (m ∷ []) s a p q few = (
+  record { grown = grown-self rs s; there = a .0; sum-is = omega arith; spared = λ A below avoid h. (h, avoid .0) },
+  (λ two. absurd (omega arith)),
+)
 merge-by-made (suc f) rs (m ∷ m′ ∷ ms) s a p q few =
     let all : List ℕ = m ∷ m′ ∷ ms in
     let k : ℕ = length all / 2 in
@@ -148,10 +154,12 @@ merge-by-made (suc f) rs (m ∷ m′ ∷ ms) s a p q few =
     let few′ : maxima rs (xs ++ ys) ≤ 513 = subst (λ (t : List ℕ). maxima rs t ≤ 513) (sym parts) few in
     let add-up : maxima rs (xs ++ ys) ≡ maxima rs xs + maxima rs ys = total-append (λ (m : ℕ). nodeAt rs m .maximum) xs ys in
     let first : List Record × ℕ = merge-by f rs xs in
-    let m₁ : Merged rs xs first = merge-by-made f rs xs s (All-first (λ m. place rs m ≡ true) xs ys a′) (omega (arith, length-take k all)) (omega (arith, length-take k all)) (omega arith) .0 in
+    let m₁ : Merged rs xs first = merge-by-made f rs xs s (All-first (λ m. place rs m ≡ true) xs ys a′) (omega (arith, length-take k all))
+    (omega (arith, length-take k all)) (omega arith) .0 in
     let second : List Record × ℕ = merge-by f (first .0) ys in
     let m₂ : Merged (first .0) ys second =
-    merge-by-made f (first .0) ys (m₁ .grown .sound) (All-map (grown-place rs (first .0) (m₁ .grown)) ys iy) (omega (arith, length-drop k all)) (omega (arith, length-drop k all))
+    merge-by-made f (first .0) ys (m₁ .grown .sound) (All-map (grown-place rs (first .0) (m₁ .grown)) ys iy)
+    (omega (arith, length-drop k all)) (omega (arith, length-drop k all))
     (omega (arith, maxima-grown rs (first .0) (m₁ .grown) ys iy)) .0 in
     let half : length (xs ++ ys) / 2 ≡ length xs = ap (λ (t : List ℕ). length t / 2) parts ∙ omega (arith, length-take k all) in (
       subst (λ (t : List ℕ). Merged rs t (merge-by (suc f) rs all)) parts (merged-two rs xs ys first second m₁ m₂ iy few′),
@@ -159,7 +167,8 @@ merge-by-made (suc f) rs (m ∷ m′ ∷ ms) s a p q few =
     )
 
 -- merging a list
-pub merge-made : (rs : List Record) (ms : List ℕ) → Sound (nodeAt rs) (place rs) → All (λ m. place rs m ≡ true) ms → 1 ≤ length ms → maxima rs ms ≤ 513 →
+pub merge-made : (rs : List Record) (ms : List ℕ) → Sound (nodeAt rs) (place rs) → All (λ m. place rs m ≡ true) ms → 1 ≤ length ms →
+    maxima rs ms ≤ 513 →
     Merged rs ms (merge rs ms) × (2 ≤ length ms → Crowned rs ms (merge rs ms))
 unfolding merge
 merge-made rs ms s a p few = merge-by-made (length ms) rs ms s a p (omega arith) few
@@ -177,8 +186,10 @@ merge-fuel (suc f) (suc g) rs (m ∷ []) h k = refl
 merge-fuel (suc f) (suc g) rs (m ∷ m′ ∷ ms) h k =
     let all : List ℕ = m ∷ m′ ∷ ms in
     let n : ℕ = length all / 2 in
-    let first : merge-by f rs (take n all) ≡ merge-by g rs (take n all) = merge-fuel f g rs (take n all) (omega (arith, length-take n all)) (omega (arith, length-take n all)) in
+    let first : merge-by f rs (take n all) ≡ merge-by g rs (take n all) =
+    merge-fuel f g rs (take n all) (omega (arith, length-take n all)) (omega (arith, length-take n all)) in
     let second : merge-by f (merge-by f rs (take n all) .0) (drop n all) ≡ merge-by g (merge-by f rs (take n all) .0) (drop n all) =
     merge-fuel f g (merge-by f rs (take n all) .0) (drop n all) (omega (arith, length-drop n all)) (omega (arith, length-drop n all)) in
     ap (λ (c : List Record × ℕ). add (c .0) (joining (c .0) false (merge-by f rs (take n all) .1) (c .1))) second ∙
-    ap (λ (a : List Record × ℕ). add (merge-by g (a .0) (drop n all) .0) (joining (merge-by g (a .0) (drop n all) .0) false (a .1) (merge-by g (a .0) (drop n all) .1))) first
+    ap (λ (a : List Record × ℕ). add (merge-by g (a .0) (drop n all) .0)
+    (joining (merge-by g (a .0) (drop n all) .0) false (a .1) (merge-by g (a .0) (drop n all) .1))) first

@@ -136,7 +136,8 @@ place-set rs n nd e = fun-ext (λ m. go m (eqb m n) refl)
     go : (m : ℕ) (b : Bool) → eqb m n ≡ b → place (set rs n (node nd)) m ≡ place rs m
     go m true q =
         let is : m ≡ n = eqb-true m n q in
-        ap (place (set rs n (node nd))) is ∙ (ap is-node (getD-set-same rs n (node nd) unknown (place-inside rs n e)) ∙ (sym e ∙ ap (place rs) (sym is)))
+        ap (place (set rs n (node nd))) is ∙ (ap is-node (getD-set-same rs n (node nd) unknown (place-inside rs n e)) ∙
+        (sym e ∙ ap (place rs) (sym is)))
     go m false q = ap is-node (getD-set-other rs n m (node nd) unknown (eqb-false m n q))
 
 pub outputs-set : (rs : List Record) (n : ℕ) (nd : Node) → place rs n ≡ true → outputs (set rs n (node nd)) ≡ outputs rs
@@ -246,16 +247,20 @@ pub pass-links : (q : ℕ → Bool) (rs : List Record) → LinksPass q rs → al
 unfolding all links nodeAt node-of node-links outputs entries dummy-node
 pass-links q [] h = refl
 pass-links q (node x ∷ rs) h =
-    and-true (h .of-nodes 0) (pass-links q rs (record { of-nodes = λ n. h .of-nodes (suc n); of-outputs = h .of-outputs; of-entries = h .of-entries }))
+    and-true (h .of-nodes 0) (pass-links q rs (record
+    { of-nodes = λ n. h .of-nodes (suc n); of-outputs = h .of-outputs; of-entries = h .of-entries }))
 pass-links q (output o ∷ rs) h =
-    and-true (and-true (h .of-outputs .0) refl) (pass-links q rs (record { of-nodes = λ n. h .of-nodes (suc n); of-outputs = h .of-outputs .1; of-entries = h .of-entries }))
+    and-true (and-true (h .of-outputs .0) refl) (pass-links q rs
+    (record { of-nodes = λ n. h .of-nodes (suc n); of-outputs = h .of-outputs .1; of-entries = h .of-entries }))
 pass-links q (waiting w ∷ rs) h =
-    and-true (and-true (h .of-entries .0) refl) (pass-links q rs (record { of-nodes = λ n. h .of-nodes (suc n); of-outputs = h .of-outputs; of-entries = h .of-entries .1 }))
+    and-true (and-true (h .of-entries .0) refl) (pass-links q rs
+    (record { of-nodes = λ n. h .of-nodes (suc n); of-outputs = h .of-outputs; of-entries = h .of-entries .1 }))
 pass-links q (unknown ∷ rs) h =
     pass-links q rs (record { of-nodes = λ n. h .of-nodes (suc n); of-outputs = h .of-outputs; of-entries = h .of-entries })
 
 -- the number of an output among earlier and later ones
-pub number-in-append : (os ps : List Output) (n v : ℕ) → number-in os n v ≡ 0 → All (λ o. 1 ≤ o .number) os → number-in (os ++ ps) n v ≡ number-in ps n v
+pub number-in-append : (os ps : List Output) (n v : ℕ) → number-in os n v ≡ 0 → All (λ o. 1 ≤ o .number) os →
+    number-in (os ++ ps) n v ≡ number-in ps n v
 unfolding number-in
 number-in-append [] ps n v h k = refl
 number-in-append (o ∷ os) ps n v h k = go (eqb (o .node) n && eqb (o .value) v) h (λ e. number-in-append os ps n v e (k .1))
@@ -276,7 +281,8 @@ number-in-kept (o ∷ os) ps n v h = go (eqb (o .node) n && eqb (o .value) v) h 
     go false h ih = ih h
 
 -- an output without a number is none of those defined
-pub number-none : (os : List Output) (n v : ℕ) → number-in os n v ≡ 0 → All (λ o. 1 ≤ o .number) os → All (λ o. o .node ≡ n → o .value ≡ v → ⊥) os
+pub number-none : (os : List Output) (n v : ℕ) → number-in os n v ≡ 0 → All (λ o. 1 ≤ o .number) os →
+    All (λ o. o .node ≡ n → o .value ≡ v → ⊥) os
 unfolding number-in
 number-none [] n v h k = tt
 number-none (o ∷ os) n v h k = go (eqb (o .node) n) refl (eqb (o .value) v) refl h (λ e. number-none os n v e (k .1))

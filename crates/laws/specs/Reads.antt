@@ -16,7 +16,8 @@ use Rattle.rules.specs.Records.{leaf, Node, Output, Entry, Record, waiting, wai
 use Rattle.rules.specs.Build.{records, clause-total, clause-mark, clause-words, some-wait, tares-of, buckets-of, build-over}
 use Rattle.rules.specs.WellFormed.{slots-within, tares-within, buckets-within, clauses-within, variables-below, fresh-within, known, kinds-known, is-leaf, inputs-first, waiting-last, outputs-rise, leaves-lawful, links-nodes, heights-right, maxima-right, outputs-no-leaf, outputs-distinct, values-within, numbers-of, input-variables, numbers-distinct, numbers-above, numbers-below, set-lawful, two-inputs, built-power, built-coarser, built-times-weight, some-bucket, few-buckets, linked, buckets-linked, left-maxima-within, waiting-below-built, no-tare, no-bucket, inputs-wait, weights-add, maxima-within, links-spare-buckets, entries-spare-buckets, inputs-within, waiting-within, waiting-maxima-within, waiting-lawful, built-clauses, unbuilt-clauses, clauses-over}
 use Rattle.laws.specs.Words.{both, same-true}
-use Rattle.laws.specs.Facts.{All, All-keep, rising-at, and-true, not-yes, all-facts, occurs, among-occurs, not-among-occurs, distinct-occurs}
+use Rattle.laws.specs.Facts.{All, All-keep, rising-at, and-true, not-yes, all-facts, occurs}
+use Rattle.laws.specs.Counts.{among-occurs, not-among-occurs, distinct-occurs}
 use Rattle.laws.specs.Powers.{power-is}
 use Rattle.laws.specs.Places.{place, nodes-same, places-same, waiting-none, outputs-append, outputs-of-waiting, LinksPass, links-pass}
 use Rattle.laws.specs.Formed.{Sound, Defined, variables-of, Taken, Waits, Spares, Linked, Built, Unbuilt, Formed, Laid}
@@ -46,7 +47,8 @@ padded-length z n xs = length-append xs (replicate (n - length xs) z) ∙ ap (λ
 -- slots whose unused ones are 0 have as many used ones as they count
 pub slots-count : (n used : ℕ) (slots : List ℕ) → used ≤ n → padded 0 n (take used slots) ≡ slots → length (take used slots) ≡ used
 slots-count n used slots h e =
-    let whole : length slots ≡ length (take used slots) + (n - length (take used slots)) = ap length (sym e) ∙ padded-length 0 n (take used slots) in
+    let whole : length slots ≡ length (take used slots) + (n - length (take used slots)) = ap length (sym e) ∙
+    padded-length 0 n (take used slots) in
     let front : length (take used slots) ≡ min used (length slots) = length-take used slots in
     omega arith
 
@@ -192,7 +194,8 @@ module _ (s : State) (rs : List Record) (e : all (λ c. c) (clauses-over s rs) �
         no-tare = ap (λ (k : ℕ). take k (s .tares)) (eqb-true (s .«tares_used») 0 r1);
         no-bucket = ap (λ (k : ℕ). take k (s .buckets)) (eqb-true (s .«buckets_used») 0 r2);
         count = eqb-true _ _ count;
-        each-waits = λ i h. rising-at (λ i. 1 ≤ occurs i ns) (s .inputs) 0 (all-facts (among ns) (λ i. among-occurs ns i) (rising (s .inputs) 0) each) i (omega arith) (omega arith);
+        each-waits = λ i h. rising-at (λ i. 1 ≤ occurs i ns) (s .inputs) 0
+            (all-facts (among ns) (λ i. among-occurs ns i) (rising (s .inputs) 0) each) i (omega arith) (omega arith);
         sum-is = eqb-true _ _ r4;
       }
 
@@ -221,7 +224,8 @@ module _ (s : State) (rs : List Record) (e : all (λ c. c) (clauses-over s rs) �
         times-weight = rw tares (leb-true _ _ r4);
         some = omega arith;
         few = omega arith;
-        linked = subst (λ (at : ℕ → Node). Linked at (some-wait (entries rs)) (buckets-of s)) at-made (linked-of rs (some-wait (entries rs)) (buckets-of s) r7);
+        linked = subst (λ (at : ℕ → Node). Linked at (some-wait (entries rs)) (buckets-of s)) at-made
+            (linked-of rs (some-wait (entries rs)) (buckets-of s) r7);
         lefts = subst (λ (at : ℕ → Node). All (λ n. at (left-link (at n .kind)) .maximum ≤ 257) (buckets-of s)) at-made
             (all-facts (λ n. leb (nodeAt rs (left-link (nodeAt rs n .kind)) .maximum) 257) (λ n e. leb-true _ _ e) (buckets-of s) r8);
         below-built = all-facts (λ e. ltb (e .weight) (s .built)) (λ e h. ltb-true _ _ h) (entries rs) r9;
@@ -238,7 +242,8 @@ module _ (s : State) (rs : List Record) (e : all (λ c. c) (clauses-over s rs) �
   formed-of =
       let few : s .variables < s .fresh = laid-of .variables-few in
       let words : s .clauses ≤ s .words = leb-true _ _ (named .c-clauses) in
-      let sound : Sound (nodeAt rs) (place rs) = sound-of rs (named .c-leaves) (passes .of-nodes) (named .c-heights) (named .c-maxima) (named .c-bounds) in
+      let sound : Sound (nodeAt rs) (place rs) = sound-of rs (named .c-leaves) (passes .of-nodes) (named .c-heights) (named .c-maxima)
+      (named .c-bounds) in
       let defined : Defined (nodeAt rs) (place rs) (outputs rs) = record {
         valued = valued-of rs (named .c-no-leaf) (named .c-values) (passes .of-outputs);
         rise = rise-of 0 (outputs rs) (named .c-rise);
@@ -247,17 +252,21 @@ module _ (s : State) (rs : List Record) (e : all (λ c. c) (clauses-over s rs) �
       let numbers : List ℕ = map (λ (o : Output). o .number) (outputs rs) ++ tares-of s in
       let taken : Taken (variables-of (nodeAt rs) (s .inputs)) (s .fresh) numbers = record {
         once = distinct-occurs numbers (named .c-distinct);
-        above-inputs = all-facts (λ n. all (λ v. ltb v n) (variables-of (nodeAt rs) (s .inputs))) (λ n e. all-facts (λ v. ltb v n) (λ v e. ltb-true _ _ e) (variables-of (nodeAt rs) (s .inputs)) e) numbers (named .c-above);
+        above-inputs = all-facts (λ n. all (λ v. ltb v n) (variables-of (nodeAt rs) (s .inputs)))
+            (λ n e. all-facts (λ v. ltb v n) (λ v e. ltb-true _ _ e) (variables-of (nodeAt rs) (s .inputs)) e) numbers (named .c-above);
         below-fresh = all-facts (λ n. ltb n (s .fresh)) (λ n e. ltb-true _ _ e) numbers (named .c-below);
       } in
       let waiters : Waits (nodeAt rs) (place rs) (entries rs) = record {
         nodes-wait = passes .of-entries;
         few = leb-true _ _ (named .c-few);
         maxima-few = leb-true _ _ (named .c-maxima-few);
-        weights = all-facts (λ e. lawful-weight (e .weight)) (λ e h. let (a, b) = both (leb 1 (e .weight)) _ h in (leb-true _ _ a, leb-true _ _ b)) (entries rs) (named .c-weights);
+        weights = all-facts (λ e. lawful-weight (e .weight))
+            (λ e h. let (a, b) = both (leb 1 (e .weight)) _ h in (leb-true _ _ a, leb-true _ _ b)) (entries rs) (named .c-weights);
       } in
       let firsts : (i : ℕ) → i < s .inputs → (x : ℤ) × (nodeAt rs i .kind ≡ leaf x) =
-      λ i h. rising-at (λ i. (x : ℤ) × (nodeAt rs i .kind ≡ leaf x)) (s .inputs) 0 (all-facts (λ i. is-leaf (nodeAt rs i .kind)) (λ i e. leaf-test (nodeAt rs i .kind) e) (rising (s .inputs) 0) (named .c-first)) i (omega arith) (omega arith) in
+      λ i h. rising-at (λ i. (x : ℤ) × (nodeAt rs i .kind ≡ leaf x)) (s .inputs) 0
+      (all-facts (λ i. is-leaf (nodeAt rs i .kind)) (λ i e. leaf-test (nodeAt rs i .kind) e) (rising (s .inputs) 0) (named .c-first)) i
+      (omega arith) (omega arith) in
       record {
         all-known = All-keep (λ r. known r ≡ true) (λ r. not (waits r)) rs (all-facts known (λ r e. e) rs (named .c-known));
         none-waits = keep-passes (λ r. not (waits r)) rs;
@@ -268,11 +277,17 @@ module _ (s : State) (rs : List Record) (e : all (λ c. c) (clauses-over s rs) �
         inputs-few = leb-true _ _ (named .c-inputs);
         inputs-first = subst (λ (at : ℕ → Node). (i : ℕ) → i < s .inputs → (x : ℤ) × (at i .kind ≡ leaf x)) at-made firsts;
         sound = subst (λ (p : ℕ → Bool). Sound (nodeAt made) p) place-made (subst (λ (at : ℕ → Node). Sound at (place rs)) at-made sound);
-        defined = subst (λ (os : List Output). Defined (nodeAt made) (place made) os) outputs-made (subst (λ (p : ℕ → Bool). Defined (nodeAt made) p (outputs rs)) place-made (subst (λ (at : ℕ → Node). Defined at (place rs) (outputs rs)) at-made defined));
-        taken = subst (λ (os : List Output). Taken (variables-of (nodeAt made) (s .inputs)) (s .fresh) (map (λ (o : Output). o .number) os ++ tares-of s)) outputs-made (subst (λ (at : ℕ → Node). Taken (variables-of at (s .inputs)) (s .fresh) numbers) at-made taken);
-        waiting-are = subst (λ (p : ℕ → Bool). Waits (nodeAt made) p (entries rs)) place-made (subst (λ (at : ℕ → Node). Waits at (place rs) (entries rs)) at-made waiters);
+        defined = subst (λ (os : List Output). Defined (nodeAt made) (place made) os) outputs-made
+            (subst (λ (p : ℕ → Bool). Defined (nodeAt made) p (outputs rs)) place-made
+            (subst (λ (at : ℕ → Node). Defined at (place rs) (outputs rs)) at-made defined));
+        taken = subst (λ (os : List Output). Taken (variables-of (nodeAt made) (s .inputs)) (s .fresh)
+            (map (λ (o : Output). o .number) os ++ tares-of s)) outputs-made
+            (subst (λ (at : ℕ → Node). Taken (variables-of at (s .inputs)) (s .fresh) numbers) at-made taken);
+        waiting-are = subst (λ (p : ℕ → Bool). Waits (nodeAt made) p (entries rs)) place-made
+            (subst (λ (at : ℕ → Node). Waits at (place rs) (entries rs)) at-made waiters);
         spares = subst (λ (at : ℕ → Node). Spares at (buckets-of s)) at-made (spares-of rs (buckets-of s) (named .c-spare));
-        entries-spare = all-facts (λ e. not (among (buckets-of s) (e .node))) (λ e h. not-among-occurs (buckets-of s) (e .node) (not-yes _ h)) (entries rs) (named .c-entries);
+        entries-spare = all-facts (λ e. not (among (buckets-of s) (e .node)))
+            (λ e h. not-among-occurs (buckets-of s) (e .node) (not-yes _ h)) (entries rs) (named .c-entries);
         set-power = power-is (s .set) (named .c-set);
         if-unbuilt = when-unbuilt;
         if-built = when-built;

@@ -21,8 +21,9 @@ use Rattle.laws.specs.Places.{place, place-inside, join-place}
 use Rattle.laws.specs.Formed.{Sound, Spares}
 use Rattle.laws.specs.Grows.{Grown, grown-self, grown-then, grown-length}
 use Rattle.laws.specs.Merges.{maxima, maxima-grown}
-use Rattle.laws.specs.Fills.{Lone}
-use Rattle.laws.specs.Standings.{Standing, standing-none, spares-cons, Raised}
+use Rattle.laws.specs.Lones.{Lone}
+use Rattle.laws.specs.Standings.{Standing, standing-none, spares-cons}
+use Rattle.laws.specs.Raises.{Raised}
 use Rattle.laws.specs.Towers.{Fit, fit-grown, untared, Tower, tower, buckets-none}
 
 drop-next : {A : Type 0} (n : ℕ) (xs : List A) → drop n (drop 1 xs) ≡ drop (suc n) xs
@@ -31,12 +32,14 @@ drop-next n (x ∷ xs) = refl
 
 -- the buckets of two lists of members, one list after the other
 pub buckets-split : (wait : Bool) (xs ys : List (List ℕ)) (rs : List Record) (below tares : List ℕ) →
-    buckets-over wait rs below tares (xs ++ ys) ≡ buckets-over wait (buckets-over wait rs below tares xs .0) (buckets-over wait rs below tares xs .1) (drop (length xs) tares) ys
+    buckets-over wait rs below tares (xs ++ ys) ≡ buckets-over wait (buckets-over wait rs below tares xs .0)
+    (buckets-over wait rs below tares xs .1) (drop (length xs) tares) ys
 unfolding buckets-over left-out
 buckets-split wait [] ys rs below tares = refl
 buckets-split wait ([] ∷ xs) ys rs [] tares =
     buckets-split wait xs ys rs [] (drop 1 tares) ∙
-    ap (λ (t : List ℕ). buckets-over wait (buckets-over wait rs [] (drop 1 tares) xs .0) (buckets-over wait rs [] (drop 1 tares) xs .1) t ys) (drop-next (length xs) tares)
+    ap (λ (t : List ℕ). buckets-over wait (buckets-over wait rs [] (drop 1 tares) xs .0) (buckets-over wait rs [] (drop 1 tares) xs .1) t
+    ys) (drop-next (length xs) tares)
 buckets-split wait ((m ∷ ms) ∷ xs) ys rs [] tares =
     let b : List Record × ℕ = bucket wait rs [] tares (m ∷ ms) in
     let r : List Record × List ℕ = buckets-over wait (b .0) (b .1 ∷ []) (drop 1 tares) xs in
@@ -94,11 +97,13 @@ lone-topped rs m s l = record {
   where
     left-few : nodeAt rs (left-link (nodeAt rs m .kind)) .maximum ≤ 257
     left-few =
-        let is : nodeAt rs (left-link (nodeAt rs m .kind)) ≡ nodeAt rs (l .left) = ap (λ (k : Kind). nodeAt rs (left-link k)) (l .kind-is) in
+        let is : nodeAt rs (left-link (nodeAt rs m .kind)) ≡ nodeAt rs (l .left) =
+        ap (λ (k : Kind). nodeAt rs (left-link k)) (l .kind-is) in
         rw is (l .left-few)
 
 module _ (rs : List Record) (q : List Entry) (init : List (List ℕ)) (m : ℕ) (ms tares : List ℕ) (sound : Sound (nodeAt rs) (place rs))
-    (fits : All (Fit rs (length rs) []) init) (fit : Fit rs (length rs) [] (m ∷ ms)) (laws : All (λ t. lawful (pos t) ≡ true) tares) (count : length init ≡ length tares)
+    (fits : All (Fit rs (length rs) []) init) (fit : Fit rs (length rs) [] (m ∷ ms)) (laws : All (λ t. lawful (pos t) ≡ true) tares)
+    (count : length init ≡ length tares)
     (each : All (λ x. 1 ≤ nodeAt rs x .maximum) (m ∷ ms)) (queue-there : All (λ e. place rs (e .node) ≡ true) q) where
   abbrev lower-part : List Record × List ℕ
   lower-part = buckets-over (some-wait q) rs [] tares init
@@ -108,22 +113,30 @@ module _ (rs : List Record) (q : List Entry) (init : List (List ℕ)) (m : ℕ) 
   none-spared i half l r e = (refl, inl refl)
 
   lower-tower : Tower (some-wait q) [] rs (length rs) [] init lower-part
-  lower-tower = tower (some-wait q) [] (length rs) init rs [] tares tt (omega arith) (standing-none (some-wait q) [] rs sound none-spared) tt fits laws (omega arith)
+  lower-tower = tower (some-wait q) [] (length rs) init rs [] tares tt (omega arith) (standing-none (some-wait q) [] rs sound none-spared)
+      tt fits laws (omega arith)
 
   no-tares : drop (length init) tares ≡ []
   no-tares = ap (λ k. drop k tares) count ∙ drop-length tares
 
   -- the top bucket over those below, or where something waits, or of two members
-  top-raised : (r : List Record × List ℕ) → Tower (some-wait q) [] rs (length rs) [] init r → (r .1 ≡ [] → some-wait q ≡ false → 2 ≤ length (m ∷ ms)) →
+  top-raised : (r : List Record × List ℕ) → Tower (some-wait q) [] rs (length rs) [] init r →
+      (r .1 ≡ [] → some-wait q ≡ false → 2 ≤ length (m ∷ ms)) →
       Topped rs q (suc (length init)) (buckets-over (some-wait q) (r .0) (r .1) [] ((m ∷ ms) ∷ []))
   top-raised r t foot =
       let g : Grown rs (r .0) = t .grown in
       let fit₁ : Fit (r .0) (length rs) [] (m ∷ ms) = fit-grown rs (r .0) (length rs) [] (m ∷ ms) g fit in
       let sum : maxima (r .0) (m ∷ ms) ≡ maxima rs (m ∷ ms) = maxima-grown rs (r .0) g (m ∷ ms) (fit .there) in
-      let some : 1 ≤ maxima rs (m ∷ ms) = omega (arith, length-total (m ∷ ms), total-le (λ x. 1) (λ (x : ℕ). nodeAt rs x .maximum) (m ∷ ms) each) in
+      let some : 1 ≤ maxima rs (m ∷ ms) = omega (
+        arith,
+        length-total (m ∷ ms),
+        total-le (λ x. 1) (λ (x : ℕ). nodeAt rs x .maximum) (m ∷ ms) each,
+      ) in
       let h : Raised (some-wait q) [] (r .0) (r .1) (bucket (some-wait q) (r .0) (r .1) [] (m ∷ ms)) =
-      untared (some-wait q) [] (r .0) (length rs) (r .1) (m ∷ ms) tt (t .standing) (t .fresh) fit₁ (omega arith) (λ e w. (foot e w, omega arith)) in
-      let fresh : All (λ b. length rs ≤ b) (bucket (some-wait q) (r .0) (r .1) [] (m ∷ ms) .1 ∷ r .1) = (omega (arith, h .fresh, grown-length rs (r .0) g), t .fresh) in
+      untared (some-wait q) [] (r .0) (length rs) (r .1) (m ∷ ms) tt (t .standing) (t .fresh) fit₁ (omega arith)
+      (λ e w. (foot e w, omega arith)) in
+      let fresh : All (λ b. length rs ≤ b) (bucket (some-wait q) (r .0) (r .1) [] (m ∷ ms) .1 ∷ r .1) =
+      (omega (arith, h .fresh, grown-length rs (r .0) g), t .fresh) in
       subst (λ (x : List Record × List ℕ). Topped rs q (suc (length init)) x) (sym (one-bucket (some-wait q) (r .0) (r .1) m ms)) (record {
         standing = h .standing;
         grown = grown-then rs (r .0) _ g (h .grown);
@@ -152,7 +165,8 @@ module _ (rs : List Record) (q : List Entry) (init : List (List ℕ)) (m : ℕ) 
               absurd (omega (arith, lower-tower .some (omega arith), ap length e))
   topped-over (inr lone) = go ms refl (leb 1 (length (lower-part .1))) refl
     where
-      go : (xs : List ℕ) → ms ≡ xs → (b : Bool) → leb 1 (length (lower-part .1)) ≡ b → Topped rs q (suc (length init)) (buckets-over (some-wait q) (lower-part .0) (lower-part .1) [] ((m ∷ ms) ∷ []))
+      go : (xs : List ℕ) → ms ≡ xs → (b : Bool) → leb 1 (length (lower-part .1)) ≡ b →
+          Topped rs q (suc (length init)) (buckets-over (some-wait q) (lower-part .0) (lower-part .1) [] ((m ∷ ms) ∷ []))
       go xs f true z = top-raised lower-part lower-tower (λ e w. absurd (omega (arith, leb-true 1 (length (lower-part .1)) z, ap length e)))
       go (x ∷ xs) f false z = top-raised lower-part lower-tower (λ e w. omega (arith, ap length f))
       go [] f false z =
@@ -160,9 +174,11 @@ module _ (rs : List Record) (q : List Entry) (init : List (List ℕ)) (m : ℕ) 
           let empty : total (map length init) ≡ 0 = not-some (total (map length init)) (λ k. lower-tower .some (omega arith)) none in
           let same : lower-part ≡ (rs, []) = buckets-none (some-wait q) init rs tares empty in
           let now : Topped rs [] 1 (rs, m ∷ []) = lone-topped rs m sound (lone .1 .0) in
-          subst (λ (p : List Record × List ℕ). Topped rs q (suc (length init)) (buckets-over (some-wait q) (p .0) (p .1) [] ((m ∷ ms) ∷ []))) (sym same)
+          subst (λ (p : List Record × List ℕ). Topped rs q (suc (length init))
+          (buckets-over (some-wait q) (p .0) (p .1) [] ((m ∷ ms) ∷ []))) (sym same)
           (subst (λ (ys : List ℕ). Topped rs q (suc (length init)) (buckets-over (some-wait q) rs [] [] ((m ∷ ys) ∷ []))) (sym f)
-          (subst (λ (es : List Entry). Topped rs es (suc (length init)) (buckets-over (some-wait es) rs [] [] ((m ∷ []) ∷ []))) (sym (lone .0))
+          (subst (λ (es : List Entry). Topped rs es (suc (length init)) (buckets-over (some-wait es) rs [] [] ((m ∷ []) ∷ [])))
+          (sym (lone .0))
           (subst (λ (x : List Record × List ℕ). Topped rs [] (suc (length init)) x) (sym (lone-bucket rs m)) (wider now))))
         where
           wider : Topped rs [] 1 (rs, m ∷ []) → Topped rs [] (suc (length init)) (rs, m ∷ [])
@@ -176,5 +192,6 @@ module _ (rs : List Record) (q : List Entry) (init : List (List ℕ)) (m : ℕ) 
   pub topped : Left-over → Topped rs q (suc (length init)) (buckets-over (some-wait q) rs [] tares (init ++ ((m ∷ ms) ∷ [])))
   topped left =
       subst (λ (x : List Record × List ℕ). Topped rs q (suc (length init)) x)
-      (sym (buckets-split (some-wait q) init ((m ∷ ms) ∷ []) rs [] tares ∙ ap (λ (t : List ℕ). buckets-over (some-wait q) (lower-part .0) (lower-part .1) t ((m ∷ ms) ∷ [])) no-tares))
+      (sym (buckets-split (some-wait q) init ((m ∷ ms) ∷ []) rs [] tares ∙
+      ap (λ (t : List ℕ). buckets-over (some-wait q) (lower-part .0) (lower-part .1) t ((m ∷ ms) ∷ [])) no-tares))
       (topped-over left)

@@ -19,7 +19,8 @@ use Rattle.laws.specs.Formed.{Spares}
 use Rattle.laws.specs.Grows.{ruled-leaf, Grown, grown-self, grown-then, grown-length, grown-place, grown-one, spares-one}
 use Rattle.laws.specs.Merges.{maxima, maxima-grown, not-among-later}
 use Rattle.laws.specs.Runs.{lower-order}
-use Rattle.laws.specs.Standings.{Standing, standing-grown, Raised, raised, ordered-drop}
+use Rattle.laws.specs.Standings.{Standing, standing-grown}
+use Rattle.laws.specs.Raises.{Raised, raised, ordered-drop}
 
 -- the members of a bucket: nodes below `low` that avoid A, their maxima adding to at most 256
 pub record Fit (rs : List Record) (low : ℕ) (A : List ℕ) (ms : List ℕ) : Type 0 where
@@ -43,49 +44,63 @@ avoid-fresh low bs ms h k = All-map (λ m (i : m < low). occurs-none (λ b. low 
 -- members in any order, sorted and merged over the buckets below
 sorted-raised : (wait : Bool) (A : List ℕ) (rs : List Record) (below ms : List ℕ) → All (λ a. a < length rs) A → Standing wait A rs below →
     All (λ m. place rs m ≡ true) ms → All (λ m. occurs m A ≡ 0) ms → All (λ m. occurs m below ≡ 0) ms → 1 ≤ length ms → maxima rs ms ≤ 257 →
-    (below ≡ [] → wait ≡ false → (2 ≤ length ms) × (1 ≤ maxima rs ms)) → Raised wait A rs below (with-below wait below (merge rs (sort (lower rs) ms)))
+    (below ≡ [] → wait ≡ false → (2 ≤ length ms) × (1 ≤ maxima rs ms)) →
+    Raised wait A rs below (with-below wait below (merge rs (sort (lower rs) ms)))
 sorted-raised wait A rs below ms inside s there avoid apart some few foot =
     let xs : List ℕ = sort (lower rs) ms in
     let count : length xs ≡ length ms = length-sort (lower rs) ms in
     let sum : maxima rs xs ≡ maxima rs ms = total-sort (lower rs) (λ (m : ℕ). nodeAt rs m .maximum) ms in
-    raised wait A rs below xs inside s (All-sort (lower rs) (λ m. place rs m ≡ true) ms there) (All-sort (lower rs) (λ m. occurs m A ≡ 0) ms avoid) (All-sort (lower rs) (λ m. occurs m below ≡ 0) ms apart)
+    raised wait A rs below xs inside s (All-sort (lower rs) (λ m. place rs m ≡ true) ms there)
+    (All-sort (lower rs) (λ m. occurs m A ≡ 0) ms avoid) (All-sort (lower rs) (λ m. occurs m below ≡ 0) ms apart)
     (omega arith) (omega arith)
-    (λ e w. let (two, one) = foot e w in (omega arith, ordered-drop rs xs (length xs / 2) (ordered-sort (lower rs) (lower-order rs) ms) (omega arith) (omega arith)))
+    (λ e w. let (two, one) = foot e w in (
+      omega arith,
+      ordered-drop rs xs (length xs / 2) (ordered-sort (lower rs) (lower-order rs) ms) (omega arith) (omega arith),
+    ))
 
 -- a bucket with its tare
-pub tared : (wait : Bool) (A : List ℕ) (rs : List Record) (low : ℕ) (below : List ℕ) (tare : ℕ) (tares ms : List ℕ) → All (λ a. a < length rs) A → low ≤ length rs → Standing wait A rs below → All (λ b. low ≤ b) below →
-    Fit rs low A ms → lawful (pos tare) ≡ true → (below ≡ [] → 1 ≤ length ms) → Raised wait A rs below (bucket wait rs below (tare ∷ tares) ms)
+pub tared : (wait : Bool) (A : List ℕ) (rs : List Record) (low : ℕ) (below : List ℕ) (tare : ℕ) (tares ms : List ℕ) →
+    All (λ a. a < length rs) A → low ≤ length rs → Standing wait A rs below → All (λ b. low ≤ b) below →
+    Fit rs low A ms → lawful (pos tare) ≡ true → (below ≡ [] → 1 ≤ length ms) →
+    Raised wait A rs below (bucket wait rs below (tare ∷ tares) ms)
 unfolding bucket with-tare add leaf-node is-leaf total
 tared wait A rs low below tare tares ms inside under s fresh f law some =
     let nd : Node = leaf-node (pos tare) in
     let n : ℕ = length rs in
     let rs₁ : List Record = rs ++ (node nd ∷ []) in
     let g : Grown rs rs₁ = grown-one rs nd (s .sound) (ruled-leaf (nodeAt rs) (place rs) (pos tare) law) in
-    let none : (B : List ℕ) → Spares (nodeAt rs) B → Spares (nodeAt rs₁) B = λ B h. spares-one rs nd B h (λ half l r e. absurd (false≢true (sym (ap is-leaf e)))) in
+    let none : (B : List ℕ) → Spares (nodeAt rs) B → Spares (nodeAt rs₁) B =
+    λ B h. spares-one rs nd B h (λ half l r e. absurd (false≢true (sym (ap is-leaf e)))) in
     let s₁ : Standing wait A rs₁ below = standing-grown wait A rs rs₁ below s g (none below (s .spares)) (none A (s .others)) in
     let inside₁ : All (λ a. a < length rs₁) A = All-map (λ a (h : a < length rs). omega (arith, grown-length rs rs₁ g)) A inside in
     let f₁ : Fit rs₁ low A ms = fit-grown rs rs₁ low A ms g f in
     let one : nodeAt rs₁ n .maximum ≡ 1 = ap (λ (x : Node). x .maximum) (nodeAt-last rs nd []) in
-    let sum : maxima rs₁ (ms ++ (n ∷ [])) ≡ maxima rs₁ ms + maxima rs₁ (n ∷ []) = total-append (λ (m : ℕ). nodeAt rs₁ m .maximum) ms (n ∷ []) in
+    let sum : maxima rs₁ (ms ++ (n ∷ [])) ≡ maxima rs₁ ms + maxima rs₁ (n ∷ []) =
+    total-append (λ (m : ℕ). nodeAt rs₁ m .maximum) ms (n ∷ []) in
     let low-below : All (λ b. b < n) below = All-map (place-inside rs) below (s .there) in
     let h : Raised wait A rs₁ below (with-below wait below (merge rs₁ (sort (lower rs₁) (ms ++ (n ∷ []))))) =
     sorted-raised wait A rs₁ below (ms ++ (n ∷ [])) inside₁ s₁
     (All-append (λ m. place rs₁ m ≡ true) ms (n ∷ []) (f₁ .there) (place-last rs nd [], tt))
     (All-append (λ m. occurs m A ≡ 0) ms (n ∷ []) (f₁ .avoid) (not-among-later (length rs) n A inside (omega arith), tt))
-    (All-append (λ m. occurs m below ≡ 0) ms (n ∷ []) (avoid-fresh low below ms fresh (f₁ .old)) (not-among-later n n below low-below (omega arith), tt))
+    (All-append (λ m. occurs m below ≡ 0) ms (n ∷ []) (avoid-fresh low below ms fresh (f₁ .old))
+    (not-among-later n n below low-below (omega arith), tt))
     (omega (arith, length-append ms (n ∷ []))) (omega (arith, f₁ .few))
     (λ e w. (omega (arith, length-append ms (n ∷ []), some e), omega arith)) in
     record { standing = h .standing; grown = grown-then rs rs₁ _ g (h .grown); fresh = omega (arith, h .fresh, grown-length rs rs₁ g) }
 
 -- a bucket without one
-pub untared : (wait : Bool) (A : List ℕ) (rs : List Record) (low : ℕ) (below ms : List ℕ) → All (λ a. a < length rs) A → Standing wait A rs below → All (λ b. low ≤ b) below →
-    Fit rs low A ms → 1 ≤ length ms → (below ≡ [] → wait ≡ false → (2 ≤ length ms) × (1 ≤ maxima rs ms)) → Raised wait A rs below (bucket wait rs below [] ms)
+pub untared : (wait : Bool) (A : List ℕ) (rs : List Record) (low : ℕ) (below ms : List ℕ) → All (λ a. a < length rs) A →
+    Standing wait A rs below → All (λ b. low ≤ b) below →
+    Fit rs low A ms → 1 ≤ length ms → (below ≡ [] → wait ≡ false → (2 ≤ length ms) × (1 ≤ maxima rs ms)) →
+    Raised wait A rs below (bucket wait rs below [] ms)
 unfolding bucket with-tare
 untared wait A rs low below ms inside s fresh f some foot =
-    sorted-raised wait A rs below ms inside s (f .there) (f .avoid) (avoid-fresh low below ms fresh (f .old)) some (omega (arith, f .few)) foot
+    sorted-raised wait A rs below ms inside s (f .there) (f .avoid) (avoid-fresh low below ms fresh (f .old)) some (omega (arith, f .few))
+    foot
 
 -- the buckets of a list of members, built over those that stand
-pub record Tower (wait : Bool) (A : List ℕ) (rs : List Record) (low : ℕ) (below : List ℕ) (mss : List (List ℕ)) (r : List Record × List ℕ) : Type 0 where
+pub record Tower (wait : Bool) (A : List ℕ) (rs : List Record) (low : ℕ) (below : List ℕ) (mss : List (List ℕ)) (r : List Record × List ℕ)
+    : Type 0 where
   pub standing : Standing wait A (r .0) (r .1)
   pub grown : Grown rs (r .0)
   pub fresh : All (λ b. low ≤ b) (r .1)
@@ -94,8 +109,10 @@ pub record Tower (wait : Bool) (A : List ℕ) (rs : List Record) (low : ℕ) (be
 
 module _ (wait : Bool) (A : List ℕ) (low : ℕ) where
   -- all with tares
-  pub tower : (mss : List (List ℕ)) (rs : List Record) (below tares : List ℕ) → All (λ a. a < length rs) A → low ≤ length rs → Standing wait A rs below → All (λ b. low ≤ b) below →
-      All (Fit rs low A) mss → All (λ t. lawful (pos t) ≡ true) tares → length mss ≤ length tares → Tower wait A rs low below mss (buckets-over wait rs below tares mss)
+  pub tower : (mss : List (List ℕ)) (rs : List Record) (below tares : List ℕ) → All (λ a. a < length rs) A → low ≤ length rs →
+      Standing wait A rs below → All (λ b. low ≤ b) below →
+      All (Fit rs low A) mss → All (λ t. lawful (pos t) ≡ true) tares → length mss ≤ length tares →
+      Tower wait A rs low below mss (buckets-over wait rs below tares mss)
   unfolding buckets-over left-out total
   tower [] rs below tares inside under s fresh fits laws enough = record {
     standing = s;
@@ -106,20 +123,38 @@ module _ (wait : Bool) (A : List ℕ) (low : ℕ) where
   }
   tower (ms ∷ mss) rs below [] inside under s fresh fits laws enough = absurd (omega arith)
   tower ([] ∷ mss) rs [] (t ∷ ts) inside under s fresh fits laws enough =
-      let h : Tower wait A rs low [] mss (buckets-over wait rs [] ts mss) = tower mss rs [] ts inside under s fresh (fits .1) (laws .1) (omega arith) in
-      record { standing = h .standing; grown = h .grown; fresh = h .fresh; many = omega (arith, h .many); some = λ k. h .some (omega arith) }
+      let h : Tower wait A rs low [] mss (buckets-over wait rs [] ts mss) =
+      tower mss rs [] ts inside under s fresh (fits .1) (laws .1) (omega arith) in
+      record {
+        standing = h .standing;
+        grown = h .grown;
+        fresh = h .fresh;
+        many = omega (arith, h .many);
+        some =
+            λ k. h .some (omega arith);
+      }
   tower ((m ∷ ms) ∷ mss) rs [] (t ∷ ts) inside under s fresh fits laws enough =
       next (tared wait A rs low [] t ts (m ∷ ms) inside under s fresh (fits .0) (laws .0) (λ e. omega arith))
       (λ rs₁ b i u s f k. tower mss rs₁ (b ∷ []) ts i u s f k (laws .1) (omega arith)) (fits .1)
     where
       next : {r : List Record × ℕ} → Raised wait A rs [] r →
-          ((rs₁ : List Record) (b : ℕ) → All (λ a. a < length rs₁) A → low ≤ length rs₁ → Standing wait A rs₁ (b ∷ []) → All (λ b. low ≤ b) (b ∷ []) → All (Fit rs₁ low A) mss → Tower wait A rs₁ low (b ∷ []) mss (buckets-over wait rs₁ (b ∷ []) ts mss)) →
+          ((rs₁ : List Record) (b : ℕ) → All (λ a. a < length rs₁) A → low ≤ length rs₁ → Standing wait A rs₁ (b ∷ []) →
+          All (λ b. low ≤ b) (b ∷ []) → All (Fit rs₁ low A) mss →
+          Tower wait A rs₁ low (b ∷ []) mss (buckets-over wait rs₁ (b ∷ []) ts mss)) →
           All (Fit rs low A) mss → Tower wait A rs low [] ((m ∷ ms) ∷ mss) (buckets-over wait (r .0) (r .1 ∷ []) ts mss)
       next {r = r} h go fits =
           let le : length rs ≤ length (r .0) = grown-length rs (r .0) (h .grown) in
           let t : Tower wait A (r .0) low (r .1 ∷ []) mss (buckets-over wait (r .0) (r .1 ∷ []) ts mss) =
-          go (r .0) (r .1) (All-map (λ a (k : a < length rs). omega arith) A inside) (omega arith) (h .standing) (omega (arith, h .fresh), tt) (All-map (λ ms f. fit-grown rs (r .0) low A ms (h .grown) f) mss fits) in
-          record { standing = t .standing; grown = grown-then rs (r .0) _ (h .grown) (t .grown); fresh = t .fresh; many = omega (arith, t .many); some = λ k. t .some (omega arith) }
+          go (r .0) (r .1) (All-map (λ a (k : a < length rs). omega arith) A inside) (omega arith) (h .standing)
+          (omega (arith, h .fresh), tt) (All-map (λ ms f. fit-grown rs (r .0) low A ms (h .grown) f) mss fits) in
+          record {
+            standing = t .standing;
+            grown = grown-then rs (r .0) _ (h .grown) (t .grown);
+            fresh = t .fresh;
+            many =
+                omega (arith, t .many);
+            some = λ k. t .some (omega arith);
+          }
   tower (ms ∷ mss) rs (c ∷ bs) (t ∷ ts) inside under s fresh fits laws enough =
       next (tared wait A rs low (c ∷ bs) t ts ms inside under s fresh (fits .0) (laws .0) (λ e. absurd (cons-nil e)))
       (λ rs₁ b i u s f k. tower mss rs₁ (b ∷ c ∷ bs) ts i u s f k (laws .1) (omega arith)) (fits .1)
@@ -130,16 +165,27 @@ module _ (wait : Bool) (A : List ℕ) (low : ℕ) where
           omega arith
 
       next : {r : List Record × ℕ} → Raised wait A rs (c ∷ bs) r →
-          ((rs₁ : List Record) (b : ℕ) → All (λ a. a < length rs₁) A → low ≤ length rs₁ → Standing wait A rs₁ (b ∷ c ∷ bs) → All (λ b. low ≤ b) (b ∷ c ∷ bs) → All (Fit rs₁ low A) mss → Tower wait A rs₁ low (b ∷ c ∷ bs) mss (buckets-over wait rs₁ (b ∷ c ∷ bs) ts mss)) →
+          ((rs₁ : List Record) (b : ℕ) → All (λ a. a < length rs₁) A → low ≤ length rs₁ → Standing wait A rs₁ (b ∷ c ∷ bs) →
+          All (λ b. low ≤ b) (b ∷ c ∷ bs) → All (Fit rs₁ low A) mss →
+          Tower wait A rs₁ low (b ∷ c ∷ bs) mss (buckets-over wait rs₁ (b ∷ c ∷ bs) ts mss)) →
           All (Fit rs low A) mss → Tower wait A rs low (c ∷ bs) (ms ∷ mss) (buckets-over wait (r .0) (r .1 ∷ c ∷ bs) ts mss)
       next {r = r} h go fits =
           let le : length rs ≤ length (r .0) = grown-length rs (r .0) (h .grown) in
           let t : Tower wait A (r .0) low (r .1 ∷ c ∷ bs) mss (buckets-over wait (r .0) (r .1 ∷ c ∷ bs) ts mss) =
-          go (r .0) (r .1) (All-map (λ a (k : a < length rs). omega arith) A inside) (omega arith) (h .standing) (omega (arith, h .fresh), fresh) (All-map (λ ms f. fit-grown rs (r .0) low A ms (h .grown) f) mss fits) in
-          record { standing = t .standing; grown = grown-then rs (r .0) _ (h .grown) (t .grown); fresh = t .fresh; many = omega (arith, t .many); some = λ k. t .some (omega arith) }
+          go (r .0) (r .1) (All-map (λ a (k : a < length rs). omega arith) A inside) (omega arith) (h .standing)
+          (omega (arith, h .fresh), fresh) (All-map (λ ms f. fit-grown rs (r .0) low A ms (h .grown) f) mss fits) in
+          record {
+            standing = t .standing;
+            grown = grown-then rs (r .0) _ (h .grown) (t .grown);
+            fresh = t .fresh;
+            many =
+                omega (arith, t .many);
+            some = λ k. t .some (omega arith);
+          }
 
 -- where there are no members nothing is built
-pub buckets-none : (wait : Bool) (mss : List (List ℕ)) (rs : List Record) (tares : List ℕ) → total (map length mss) ≡ 0 → buckets-over wait rs [] tares mss ≡ (rs, [])
+pub buckets-none : (wait : Bool) (mss : List (List ℕ)) (rs : List Record) (tares : List ℕ) → total (map length mss) ≡ 0 →
+    buckets-over wait rs [] tares mss ≡ (rs, [])
 unfolding buckets-over left-out total
 buckets-none wait [] rs tares h = refl
 buckets-none wait ([] ∷ mss) rs tares h = buckets-none wait mss rs (drop 1 tares) (omega arith)

@@ -49,12 +49,19 @@ pub state-back : (s : State) (rs : List Record) → Laid s rs → length rs ≡ 
 unfolding stateOf build-over clause-mark clause-total clause-words variable-total tares-of buckets-of stated
 state-back s rs l count =
     let few : s .variables < s .fresh = l .variables-few in
-    let tares : length (take (s .«tares_used») (s .tares)) ≡ s .«tares_used» = slots-count 19 (s .«tares_used») (s .tares) (l .tares-few) (l .tares-laid) in
-    let buckets : length (take (s .«buckets_used») (s .buckets)) ≡ s .«buckets_used» = slots-count 20 (s .«buckets_used») (s .buckets) (l .buckets-few) (l .buckets-laid) in
-    ap (λ (k : ℕ). stated s k (s .words + 0) (s .clauses + 0) (s .fresh - (s .fresh - s .variables)) (padded 0 19 (tares-of s)) (length (tares-of s)) (padded 0 20 (buckets-of s)) (length (buckets-of s))) (ap length (sym (l .waiting-last)) ∙ count) ∙
-    (ap₂ (λ (k m : ℕ). stated s (s .records) k m (s .fresh - (s .fresh - s .variables)) (padded 0 19 (tares-of s)) (length (tares-of s)) (padded 0 20 (buckets-of s)) (length (buckets-of s))) {x = s .words + 0} {y = s .words} {u = s .clauses + 0} {v = s .clauses} (omega arith) (omega arith) ∙
-    (ap₂ (λ (k : ℕ) (t : List ℕ). stated s (s .records) (s .words) (s .clauses) k t (length (tares-of s)) (padded 0 20 (buckets-of s)) (length (buckets-of s))) {x = s .fresh - (s .fresh - s .variables)} {y = s .variables} (omega arith) (l .tares-laid) ∙
-    (ap₂ (λ (k : ℕ) (t : List ℕ). stated s (s .records) (s .words) (s .clauses) (s .variables) (s .tares) k t (length (buckets-of s))) tares (l .buckets-laid) ∙
+    let tares : length (take (s .«tares_used») (s .tares)) ≡ s .«tares_used» =
+    slots-count 19 (s .«tares_used») (s .tares) (l .tares-few) (l .tares-laid) in
+    let buckets : length (take (s .«buckets_used») (s .buckets)) ≡ s .«buckets_used» =
+    slots-count 20 (s .«buckets_used») (s .buckets) (l .buckets-few) (l .buckets-laid) in
+    ap (λ (k : ℕ). stated s k (s .words + 0) (s .clauses + 0) (s .fresh - (s .fresh - s .variables)) (padded 0 19 (tares-of s))
+    (length (tares-of s)) (padded 0 20 (buckets-of s)) (length (buckets-of s))) (ap length (sym (l .waiting-last)) ∙ count) ∙
+    (ap₂ (λ (k m : ℕ). stated s (s .records) k m (s .fresh - (s .fresh - s .variables)) (padded 0 19 (tares-of s)) (length (tares-of s))
+    (padded 0 20 (buckets-of s)) (length (buckets-of s))) {x = s .words + 0} {y = s .words} {u = s .clauses + 0} {v = s .clauses}
+    (omega arith) (omega arith) ∙
+    (ap₂ (λ (k : ℕ) (t : List ℕ). stated s (s .records) (s .words) (s .clauses) k t (length (tares-of s)) (padded 0 20 (buckets-of s))
+    (length (buckets-of s))) {x = s .fresh - (s .fresh - s .variables)} {y = s .variables} (omega arith) (l .tares-laid) ∙
+    (ap₂ (λ (k : ℕ) (t : List ℕ). stated s (s .records) (s .words) (s .clauses) (s .variables) (s .tares) k t (length (buckets-of s))) tares
+    (l .buckets-laid) ∙
     ap (λ (k : ℕ). stated s (s .records) (s .words) (s .clauses) (s .variables) (s .tares) (s .«tares_used») (s .buckets) k) buckets)))
 
 -- the test gives the facts
@@ -75,17 +82,22 @@ pub facts-well-formed : (s : State) (store : List ℕ) (clauses : List ℤ) → 
 unfolding well-formed well-formed-clauses all marks-within buildOf held
 facts-well-formed s store clauses w =
     and-true (and-true (le-leb _ _ (w .records-within)) (le-leb _ _ (w .words-within)))
-    (subst (λ (t : State). all (λ c. c) (clauses-over t (held s store)) ≡ true) (state-back s (held s store) (w .laid) (records-length store (s .records)))
-    (subst (λ (rs : List Record). all (λ c. c) (clauses-over (stateOf (buildOf s store)) rs) ≡ true) (sym (w .laid .waiting-last)) (clauses-of (buildOf s store) (w .formed))))
+    (subst (λ (t : State). all (λ c. c) (clauses-over t (held s store)) ≡ true)
+    (state-back s (held s store) (w .laid) (records-length store (s .records)))
+    (subst (λ (rs : List Record). all (λ c. c) (clauses-over (stateOf (buildOf s store)) rs) ≡ true) (sym (w .laid .waiting-last))
+    (clauses-of (buildOf s store) (w .formed))))
 
 -- a build that was written with room enough is well formed as state and store
-pub written : (b : Build) (store : List ℕ) (clauses : List ℤ) → Formed b → length (records b) ≤ capacity store → clause-mark b ≤ length clauses →
+pub written : (b : Build) (store : List ℕ) (clauses : List ℤ) → Formed b → length (records b) ≤ capacity store →
+    clause-mark b ≤ length clauses →
     well-formed (stateOf b) (padded 0 (length store) (imageOf (records b))) clauses ≡ true
 unfolding well-formed well-formed-clauses all marks-within held stateOf capacity padded
 written b store clauses f room words =
     let rs : List Record = records b in
     let image : length (imageOf rs) ≡ 8 * length rs = image-length rs in
-    let whole : length (padded 0 (length store) (imageOf rs)) ≡ length (imageOf rs) + (length store - length (imageOf rs)) = padded-length 0 (length store) (imageOf rs) in
+    let whole : length (padded 0 (length store) (imageOf rs)) ≡ length (imageOf rs) + (length store - length (imageOf rs)) =
+    padded-length 0 (length store) (imageOf rs) in
     let fits : length rs ≤ length store / 8 = room in
     and-true (and-true (le-leb (length rs) (length (padded 0 (length store) (imageOf rs)) / 8) (omega arith)) (le-leb _ _ words))
-    (ap (λ (t : List Record). all (λ c. c) (clauses-over (stateOf b) t)) (records-of-image rs (replicate (length store - length (imageOf rs)) 0)) ∙ clauses-of b f)
+    (ap (λ (t : List Record). all (λ c. c) (clauses-over (stateOf b) t))
+    (records-of-image rs (replicate (length store - length (imageOf rs)) 0)) ∙ clauses-of b f)

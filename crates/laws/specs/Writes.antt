@@ -18,7 +18,8 @@ use Rattle.rules.specs.Records.{leaf, Node, Output, Entry, Record, waiting, wai
 use Rattle.rules.specs.Build.{Build, records, variable-total, stateOf, some-wait, tares-of, buckets-of}
 use Rattle.rules.specs.WellFormed.{slots-within, tares-within, buckets-within, clauses-within, variables-below, fresh-within, known, kinds-known, is-leaf, inputs-first, outputs-rise, links-nodes, outputs-distinct, numbers-of, input-variables, numbers-distinct, numbers-above, numbers-below, set-lawful, two-inputs, built-power, built-coarser, built-times-weight, some-bucket, few-buckets, linked, buckets-linked, left-maxima-within, waiting-below-built, no-tare, no-bucket, inputs-wait, weights-add, links-spare-buckets, entries-spare-buckets, inputs-within, waiting-within, waiting-maxima-within, waiting-lawful, built-clauses, unbuilt-clauses, clauses-over}
 use Rattle.laws.specs.Words.{both, same-self, entries-after}
-use Rattle.laws.specs.Facts.{All, All-append, All-rising, and-true, facts-all, occurs, occurs-among, occurs-not-among, occurs-distinct}
+use Rattle.laws.specs.Facts.{All, All-append, All-rising, and-true, facts-all, occurs}
+use Rattle.laws.specs.Counts.{occurs-among, occurs-not-among, occurs-distinct}
 use Rattle.laws.specs.Powers.{power-lawful}
 use Rattle.laws.specs.Places.{place, nodes-same, places-same, waiting-none, outputs-append, outputs-of-waiting, LinksPass, pass-links}
 use Rattle.laws.specs.Formed.{Sound, Defined, variables-of, Taken, Waits, Spares, Linked, Built, Unbuilt, Formed}
@@ -102,7 +103,8 @@ module _ (b : Build) (f : Formed b) where
   buckets-are = take-append-seam (b .buckets) (replicate (20 - length (b .buckets)) 0)
 
   sound-all : Sound (nodeAt (records b)) (place (records b))
-  sound-all = subst (λ (p : ℕ → Bool). Sound (nodeAt (records b)) p) place-all (subst (λ (at : ℕ → Node). Sound at (place own)) at-all (f .sound))
+  sound-all = subst (λ (p : ℕ → Bool). Sound (nodeAt (records b)) p) place-all
+      (subst (λ (at : ℕ → Node). Sound at (place own)) at-all (f .sound))
 
   defined-all : Defined (nodeAt (records b)) (place (records b)) (outputs (records b))
   defined-all =
@@ -115,9 +117,12 @@ module _ (b : Build) (f : Formed b) where
 
   taken-all : Taken (variables-of (nodeAt (records b)) (b .inputs)) (b .arena .fresh) numbers-all
   taken-all =
-      subst (λ (t : List ℕ). Taken (variables-of (nodeAt (records b)) (b .inputs)) (b .arena .fresh) (map (λ (o : Output). o .number) (outputs (records b)) ++ t)) (sym tares-are)
-      (subst (λ (os : List Output). Taken (variables-of (nodeAt (records b)) (b .inputs)) (b .arena .fresh) (map (λ (o : Output). o .number) os ++ b .tares)) outputs-all
-      (subst (λ (at : ℕ → Node). Taken (variables-of at (b .inputs)) (b .arena .fresh) (map (λ (o : Output). o .number) (outputs own) ++ b .tares)) at-all (f .taken)))
+      subst (λ (t : List ℕ). Taken (variables-of (nodeAt (records b)) (b .inputs)) (b .arena .fresh)
+      (map (λ (o : Output). o .number) (outputs (records b)) ++ t)) (sym tares-are)
+      (subst (λ (os : List Output). Taken (variables-of (nodeAt (records b)) (b .inputs)) (b .arena .fresh)
+      (map (λ (o : Output). o .number) os ++ b .tares)) outputs-all
+      (subst (λ (at : ℕ → Node). Taken (variables-of at (b .inputs)) (b .arena .fresh)
+      (map (λ (o : Output). o .number) (outputs own) ++ b .tares)) at-all (f .taken)))
 
   waits-all : Waits (nodeAt (records b)) (place (records b)) (entries (records b))
   waits-all =
@@ -145,8 +150,10 @@ module _ (b : Build) (f : Formed b) where
       eq-eqb _ _ (ap length (u .no-bucket)) also
       (eq-eqb _ _ (ap length entries-all ∙ u .count) also
       (ap (λ (q : List Entry). all (among (map (λ (e : Entry). e .node) q)) (rising (b .inputs) 0)) entries-all ∙
-      facts-all (among (map (λ (e : Entry). e .node) (b .queue))) (λ i h. occurs-among (map (λ (e : Entry). e .node) (b .queue)) i h) (rising (b .inputs) 0)
-      (All-rising (λ i. 1 ≤ occurs i (map (λ (e : Entry). e .node) (b .queue))) (b .inputs) 0 (λ i a h. u .each-waits i (omega arith))))) also
+      facts-all (among (map (λ (e : Entry). e .node) (b .queue))) (λ i h. occurs-among (map (λ (e : Entry). e .node) (b .queue)) i h)
+      (rising (b .inputs) 0)
+      (All-rising (λ i. 1 ≤ occurs i (map (λ (e : Entry). e .node) (b .queue))) (b .inputs) 0 (λ i a h. u .each-waits i (omega arith)))))
+      also
       eq-eqb _ _ (ap (λ (q : List Entry). total (map (λ (e : Entry). e .weight) q)) entries-all ∙ u .sum-is) also
       refl
 
@@ -164,15 +171,19 @@ module _ (b : Build) (f : Formed b) where
       le-leb _ _ (u .some) also
       le-leb _ _ (u .few) also
       (ap₂ (λ (q : List Entry) (t : List ℕ). linked (records b) (some-wait q) t) entries-all buckets-are ∙
-      of-linked (records b) (some-wait (b .queue)) (b .buckets) (subst (λ (at : ℕ → Node). Linked at (some-wait (b .queue)) (b .buckets)) at-all (u .linked))) also
-      facts-all (λ n. leb (nodeAt (records b) (left-link (nodeAt (records b) n .kind)) .maximum) 257) (λ n h. le-leb _ _ h) (buckets-of (stateOf b)) lefts also
-      (ap (all (λ e. ltb (e .weight) (b .built))) entries-all ∙ facts-all (λ e. ltb (e .weight) (b .built)) (λ e h. lt-ltb _ _ h) (b .queue) (u .below-built)) also
+      of-linked (records b) (some-wait (b .queue)) (b .buckets)
+      (subst (λ (at : ℕ → Node). Linked at (some-wait (b .queue)) (b .buckets)) at-all (u .linked))) also
+      facts-all (λ n. leb (nodeAt (records b) (left-link (nodeAt (records b) n .kind)) .maximum) 257) (λ n h. le-leb _ _ h)
+      (buckets-of (stateOf b)) lefts also
+      (ap (all (λ e. ltb (e .weight) (b .built))) entries-all ∙
+      facts-all (λ e. ltb (e .weight) (b .built)) (λ e h. lt-ltb _ _ h) (b .queue) (u .below-built)) also
       refl
 
   when-all : all (λ c. c) (cond (eqb (b .built) 0) (unbuilt-clauses (stateOf b) (records b)) (built-clauses (stateOf b) (records b))) ≡ true
   when-all = go (eqb (b .built) 0) refl
     where
-      go : (t : Bool) → eqb (b .built) 0 ≡ t → all (λ c. c) (cond t (unbuilt-clauses (stateOf b) (records b)) (built-clauses (stateOf b) (records b))) ≡ true
+      go : (t : Bool) → eqb (b .built) 0 ≡ t → all (λ c. c)
+          (cond t (unbuilt-clauses (stateOf b) (records b)) (built-clauses (stateOf b) (records b))) ≡ true
       go true e = unbuilt-all (eqb-true _ _ e)
       go false e = built-all (eqb-false (b .built) 0 e)
 
@@ -184,13 +195,17 @@ module _ (b : Build) (f : Formed b) where
       let rs : List Record = records b in
       let firsts : (i : ℕ) → i < b .inputs → (x : ℤ) × (nodeAt rs i .kind ≡ leaf x) =
       subst (λ (at : ℕ → Node). (i : ℕ) → i < b .inputs → (x : ℤ) × (at i .kind ≡ leaf x)) at-all (f .inputs-first) in
-      (le-leb _ _ (tares-within-19 b f) also (ap (λ (t : List ℕ). same (padded 0 19 t) (padded 0 19 (b .tares))) tares-are ∙ same-self (padded 0 19 (b .tares)))) also
-      (le-leb _ _ (buckets-within-20 b f) also (ap (λ (t : List ℕ). same (padded 0 20 t) (padded 0 20 (b .buckets))) buckets-are ∙ same-self (padded 0 20 (b .buckets)))) also
+      (le-leb _ _ (tares-within-19 b f) also (ap (λ (t : List ℕ). same (padded 0 19 t) (padded 0 19 (b .tares))) tares-are ∙
+      same-self (padded 0 19 (b .tares)))) also
+      (le-leb _ _ (buckets-within-20 b f) also (ap (λ (t : List ℕ). same (padded 0 20 t) (padded 0 20 (b .buckets))) buckets-are ∙
+      same-self (padded 0 20 (b .buckets)))) also
       le-leb _ _ (f .clauses-few) also
       lt-ltb (b .arena .fresh - b .first) (b .arena .fresh) (omega arith) also
       le-leb _ _ (f .fresh-few) also
-      facts-all known (λ r e. e) rs (All-append (λ r. known r ≡ true) own (map waiting (b .queue)) (f .all-known) (waiting-known (b .queue))) also
-      facts-all (λ i. is-leaf (nodeAt rs i .kind)) (λ i e. e) (rising (b .inputs) 0) (All-rising (λ i. is-leaf (nodeAt rs i .kind) ≡ true) (b .inputs) 0 (λ i a h. ap is-leaf (firsts i (omega arith) .1))) also
+      facts-all known (λ r e. e) rs (All-append (λ r. known r ≡ true) own (map waiting (b .queue)) (f .all-known)
+      (waiting-known (b .queue))) also
+      facts-all (λ i. is-leaf (nodeAt rs i .kind)) (λ i e. e) (rising (b .inputs) 0)
+      (All-rising (λ i. is-leaf (nodeAt rs i .kind) ≡ true) (b .inputs) 0 (λ i a h. ap is-leaf (firsts i (omega arith) .1))) also
       of-last own (b .queue) (f .none-waits) also
       of-rise 0 (outputs rs) (defined-all .rise) also
       of-sound-leaves rs sound-all also
@@ -201,16 +216,20 @@ module _ (b : Build) (f : Formed b) where
       of-differ (outputs rs) (defined-all .differ) also
       of-valued-within rs (defined-all .valued) also
       occurs-distinct numbers-all (taken-all .once) also
-      facts-all (λ n. all (λ v. ltb v n) (variables-of (nodeAt rs) (b .inputs))) (λ n h. facts-all (λ v. ltb v n) (λ v k. lt-ltb _ _ k) (variables-of (nodeAt rs) (b .inputs)) h) numbers-all (taken-all .above-inputs) also
+      facts-all (λ n. all (λ v. ltb v n) (variables-of (nodeAt rs) (b .inputs)))
+      (λ n h. facts-all (λ v. ltb v n) (λ v k. lt-ltb _ _ k) (variables-of (nodeAt rs) (b .inputs)) h) numbers-all
+      (taken-all .above-inputs) also
       facts-all (λ n. ltb n (b .arena .fresh)) (λ n h. lt-ltb _ _ h) numbers-all (taken-all .below-fresh) also
       power-lawful (b .set) (top-bit (b .set)) (f .set-power) also
       all-joined (cond (eqb (b .built) 0) (unbuilt-clauses (stateOf b) rs) (built-clauses (stateOf b) rs)) _ when-all (
       of-sound-bounds rs sound-all also
       of-spares rs (buckets-of (stateOf b)) spares-all also
       (ap₂ (λ (q : List Entry) (t : List ℕ). all (λ e. not (among t (e .node))) q) entries-all buckets-are ∙
-      facts-all (λ e. not (among (b .buckets) (e .node))) (λ e h. ap not (occurs-not-among (b .buckets) (e .node) h)) (b .queue) (f .entries-spare)) also
+      facts-all (λ e. not (among (b .buckets) (e .node))) (λ e h. ap not (occurs-not-among (b .buckets) (e .node) h)) (b .queue)
+      (f .entries-spare)) also
       le-leb _ _ (f .inputs-few) also
       le-leb _ _ (waits-all .few) also
       le-leb _ _ (waits-all .maxima-few) also
-      facts-all (λ e. lawful-weight (e .weight)) (λ e h. and-true (le-leb _ _ (h .0)) (le-leb _ _ (h .1))) (entries rs) (waits-all .weights) also
+      facts-all (λ e. lawful-weight (e .weight)) (λ e h. and-true (le-leb _ _ (h .0)) (le-leb _ _ (h .1))) (entries rs) (waits-all .weights)
+      also
       refl)

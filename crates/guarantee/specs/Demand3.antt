@@ -1,0 +1,390 @@
+-- Demand 3: what a bound's answer admits, over any accepted calls, also after more encoding and after refinement. Assumes nothing.
+use mathlib.Core.Path.{_≡_, refl, sym, ap, ap₂, _∙_, subst}
+use mathlib.Core.Logic.{_≢_, _↔_}
+use mathlib.Core.Bool.{Bool, true, false, cond, _&&_, false≢true}
+use mathlib.Core.Option.{Option, none, some}
+use mathlib.Core.List.{List, [], _∷_, _++_, map}
+use Prim.Native.Nat.{ℕ, zero, suc, _+_, _*_, _-_, _/_, _%_, _^_, _≤_, _<_}
+use native.Mathlib.Omega.{arith}
+use native.Mathlib.Nat.{one-mul, mul-one, mul-comm, mul-assoc, mul-add, suc-mul, div-add-mod', mod-lt, div-mul-le-self, div-lt-iff-lt-mul, div-one, mul-div-cancel, mul-pos, mul-le-mul-left, mul-suc}
+use lib.Dec.{eqb, leb, ltb}
+use lib.ListN.{length, getD, drop, length-append}
+use lib.IntN.{ℤ, pos, negℤ, natAbs}
+use lib.Pow.{pow-pos, pow-add}
+use borrow.Author.Tests.{eqb-true, eqb-false, eq-eqb, ne-eqb, leb-true, leb-false, ltb-true, ltb-false}
+use Rattle.rules.specs.Lists.{total, rising}
+use Rattle.rules.specs.Digits.{top-bit}
+use Rattle.rules.specs.Records.{Kind, leaf, join, dummy, Node, Output, Entry, Record, nodeAt, outputs}
+use Rattle.rules.specs.Totalizer.{Arena, number-in, number-of}
+use Rattle.rules.specs.Build.{Build, unbuilt, output-weight, root, root-node, largest, some-wait}
+use Rattle.rules.specs.Start.{start-refusal, new-build}
+use Rattle.rules.specs.Enforce.{set-tares, output-answer, root-answer, built-answer, one-answer, enforce}
+use Rattle.rules.specs.WellFormed.{variable-of}
+use Rattle.laws.specs.Facts.{All, All-map, All-zip, All-second, All-source, rising-at, occurs, occurs-append, occurs-here, occurs-more, All-self}
+use Rattle.laws.specs.Places.{place, number-in-kept}
+use Rattle.laws.specs.Powers.{top-bit-least}
+use Rattle.laws.specs.Runs.{largest-all}
+use Rattle.laws.specs.Formed.{Sound, Formed, Built, Taken, Linked, variables-of}
+use Rattle.preserve.specs.Starts.{Lent, lent}
+use Rattle.preserve.specs.Given.{taken-positive}
+use Rattle.guarantee.specs.Truth.{Assign, Truths, holds}
+use Rattle.guarantee.specs.Values.{bit, value, value-all}
+use Rattle.guarantee.specs.Meaning.{every, Claim}
+use Rattle.guarantee.specs.Chains.{units, tare-sum, tare-all, tops}
+use Rattle.guarantee.specs.Roots.{root-law}
+use Rattle.guarantee.specs.Tares.{Once, set-tares-above}
+use Rattle.guarantee.specs.Queues.{waited, waited-none}
+use Rattle.guarantee.specs.Answers.{sum-of, Admits, Counting, bound-law, admits}
+use Rattle.guarantee.specs.Telling.{once-apart}
+use Rattle.guarantee.specs.Weighing.{WeighsBuilt, WeighsUnbuilt}
+use Rattle.guarantee.specs.Worlds.{Leads, here, World, Follows}
+use Rattle.guarantee.specs.Reached.{started-world, leads-world, leads-follows}
+
+-- a fact of every place is one of every element
+all-places : {A : Type 0} (P : A → Type 0) (d : A) (xs : List A) → ((i : ℕ) → i < length xs → P (getD xs i d)) → All P xs
+all-places P d [] h = tt
+all-places P d (x ∷ xs) h = (h 0 (omega arith), all-places P d xs (λ i k. h (suc i) (omega arith)))
+
+once-of : (ts : List ℕ) → ((n : ℕ) → occurs n ts ≤ 1) → Once ts
+once-of [] h = tt
+once-of (t ∷ ts) h = (
+  All-map (λ u k. λ e. omega (arith, h t, occurs-here t t ts refl, subst (λ (n : ℕ). 1 ≤ occurs n ts) e k)) ts (All-self ts),
+  once-of ts (λ n. omega (arith, h n, occurs-more n t ts)),
+)
+
+-- a built world counts its inputs
+pub counting : (xs : List ℤ) (ws : List ℕ) (b : Build) → World xs ws b → (n : b .built ≢ 0) → Counting xs ws (b .built) (b .arena) (root b) (b .tares)
+unfolding root variable-of
+counting xs ws b w n = record {
+  sound = f .sound;
+  told = w .told;
+  root-value = λ t. at-root (b .buckets) (u .some) (u .linked) v-count t (w .if-built n .counts t);
+  inputs-apart = all-places (λ x. All (λ o. natAbs x ≢ o .number) (outputs rs) × All (λ y. natAbs x ≢ y) (b .tares)) (pos 0) xs (λ i h. (
+    All-map (λ o k. k .apart i (getD xs i (pos 0)) (w .leaves-are i h)) (outputs rs) (w .told .means .claims),
+    All-map (λ y (k : All (λ v. v < y) (variables-of (nodeAt rs) (b .inputs))). λ e.
+        let low : natAbs (getD xs i (pos 0)) < y = subst (λ (kd : Kind). variable-of kd < y) (w .leaves-are i h)
+        (rising-at (λ m. variable-of (nodeAt rs m .kind) < y) (b .inputs) 0 (All-source (λ v. v < y) (λ (m : ℕ). variable-of (nodeAt rs m .kind)) (rising (b .inputs) 0) k) i (omega arith) (omega (arith, w .inputs-are))) in
+        omega arith) (b .tares) (All-second (λ y. All (λ v. v < y) (variables-of (nodeAt rs) (b .inputs))) numbers (b .tares) (f .taken .above-inputs)),
+  ));
+  tares-once = once-of (b .tares) (λ m. omega (arith, f .taken .once m, occurs-append m numbers (b .tares)));
+  tares-low = All-second (λ m. 1 ≤ m) numbers (b .tares) (taken-positive b f (omega (arith, u .two)));
+  tares-apart = All-map (λ y k. All-source (λ m. y ≢ m) (λ (o : Output). o .number) (outputs rs) k) (b .tares) (once-apart numbers (b .tares) (f .taken .once));
+}
+  where
+    f : Formed b
+    f = w .formed
+
+    u : Built b
+    u = f .if-built n
+
+    rs : List Record
+    rs = b .arena .records
+
+    numbers : List ℕ
+    numbers = map (λ (o : Output). o .number) (outputs rs)
+
+    m : ℕ
+    m = w .if-built n .left-out
+
+    v-count : m + length (b .buckets) ≡ suc (length (b .tares))
+    v-count = w .if-built n .left-count
+
+    at-root : (bs : List ℕ) → 1 ≤ length bs → Linked (nodeAt rs) (some-wait (b .queue)) bs → m + length bs ≡ suc (length (b .tares)) → (t : Truths) →
+        2 ^ m * units (map (λ i. value (nodeAt rs) t i) (tops (nodeAt rs) (some-wait (b .queue)) bs)) ≡ sum-of xs ws (b .built) t + 2 ^ m * tare-sum t (drop m (b .tares)) →
+        value (nodeAt rs) t (getD bs 0 0) ≡ (sum-of xs ws (b .built) t + tare-sum t (b .tares)) / 2 ^ length (b .tares)
+    at-root [] h l c t e = absurd (omega arith)
+    at-root (r ∷ bs) h l c t e = root-law (nodeAt rs) (place rs) (f .sound) t (some-wait (b .queue)) r bs (b .tares) (sum-of xs ws (b .built) t) m l (omega (arith, c)) e
+
+-- the bound in units of the built divisor
+abbrev pub asked : Build → ℕ → ℕ
+asked b u = u / (b .built / b .set)
+
+-- an answer that is not empty: the negation of an output, and the tares of the bits that fill the bound up
+pub record Answered (b : Build) (q : ℕ) (answer : List ℤ) : Type 0 where
+  pub number : ℕ
+  pub positive : 1 ≤ number
+  pub defined : number-of (b .arena .records) (root b) (suc (q / 2 ^ length (b .tares))) ≡ number
+  pub is : answer ≡ negℤ (pos number) ∷ set-tares (b .tares) (2 ^ length (b .tares) - 1 - q % 2 ^ length (b .tares))
+
+-- what an answer of two or more inputs comes from
+pub record Enforced (b : Build) (u : ℕ) (answer : List ℤ) : Type 0 where
+  pub is-built : b .built ≢ 0
+  pub settled : largest (b .queue) < b .set
+  pub answered : Answered b (asked b u) answer
+
+nothing-some : (l : ℤ) (ls : List ℤ) → _≡_ {A = Option (List ℤ)} (some []) (some (l ∷ ls)) → ⊥
+nothing-some l ls e = let z : _≡_ {A = List ℤ} [] (l ∷ ls) = cc in let y : _≡_ {A = ℕ} 0 1 = cc in omega arith
+
+none-some : (ls : List ℤ) → _≡_ {A = Option (List ℤ)} none (some ls) → ⊥
+none-some ls e = let y : _≡_ {A = ℕ} 0 1 = cc in omega arith
+
+same-some : (ks ls : List ℤ) → _≡_ {A = Option (List ℤ)} (some ks) (some ls) → ks ≡ ls
+same-some ks ls e = cc
+
+-- the answer of two or more inputs
+two-enforce : (b : Build) (u : ℕ) → 2 ≤ b .inputs → enforce b u ≡ cond (leb (b .sum) u && eqb (b .set) 1) (some []) (built-answer b u)
+unfolding enforce
+two-enforce b u h = rw (ne-eqb (b .inputs) 0 (λ e. omega arith), ne-eqb (b .inputs) 1 (λ e. omega arith)) refl
+
+pub enforced : (b : Build) (u : ℕ) (l : ℤ) (ls : List ℤ) → 2 ≤ b .inputs → enforce b u ≡ some (l ∷ ls) → Enforced b u (l ∷ ls)
+unfolding built-answer root-answer output-answer unbuilt output-weight root-node
+enforced b u l ls two e = first (leb (b .sum) u && eqb (b .set) 1) (sym (two-enforce b u two) ∙ e)
+  where
+    q : ℕ
+    q = asked b u
+
+    w : ℕ
+    w = 2 ^ length (b .tares)
+
+    numbered : (n : ℕ) → number-of (b .arena .records) (root b) (suc (q / w)) ≡ n → output-answer b q n ≡ some (l ∷ ls) → Answered b q (l ∷ ls)
+    numbered zero d k = absurd (none-some (l ∷ ls) k)
+    numbered (suc n) d k = record { number = suc n; positive = omega arith; defined = d; is = sym (same-some (negℤ (pos (suc n)) ∷ set-tares (b .tares) (w - 1 - q % w)) (l ∷ ls) k) }
+
+    rooted : (t : Bool) → cond t (some []) (output-answer b q (number-of (b .arena .records) (root b) (suc (q / w)))) ≡ some (l ∷ ls) → Answered b q (l ∷ ls)
+    rooted true k = absurd (nothing-some l ls k)
+    rooted false k = numbered (number-of (b .arena .records) (root b) (suc (q / w))) refl k
+
+    built : (t : Bool) → eqb (b .built) 0 ≡ t → (d : Bool) → leb (b .set) (largest (b .queue)) ≡ d → cond t none (cond d none (root-answer b q)) ≡ some (l ∷ ls) → Enforced b u (l ∷ ls)
+    built true z d y k = absurd (none-some (l ∷ ls) k)
+    built false z true y k = absurd (none-some (l ∷ ls) k)
+    built false z false y k = record { is-built = eqb-false (b .built) 0 z; settled = leb-false (b .set) (largest (b .queue)) y; answered = rooted (leb (nodeAt (b .arena .records) (root b) .maximum) (q / w)) k }
+
+    first : (t : Bool) → cond t (some []) (built-answer b u) ≡ some (l ∷ ls) → Enforced b u (l ∷ ls)
+    first true k = absurd (nothing-some l ls k)
+    first false k = built (eqb (b .built) 0) refl (leb (b .set) (largest (b .queue))) refl k
+
+-- with the tares at W - 1 - q mod W, shifted up by n powers, the sum is below 2^n (q + 1)
+shifted-law : (s q w n : ℕ) → 0 < w → (s + 2 ^ n * (w - 1 - q % w) < suc (q / w) * (2 ^ n * w)) ↔ (s < 2 ^ n * suc q)
+shifted-law s q w n h =
+    let x : ℕ = w - 1 - q % w in
+    let e : suc (q / w) * w ≡ suc q + x = omega (arith, suc-mul (q / w) w, div-add-mod' q w, mod-lt q h) in
+    let g : suc (q / w) * (2 ^ n * w) ≡ 2 ^ n * suc q + 2 ^ n * x =
+    sym (mul-assoc (suc (q / w)) (2 ^ n) w) ∙ (ap (λ (z : ℕ). z * w) (mul-comm (suc (q / w)) (2 ^ n)) ∙ (mul-assoc (2 ^ n) (suc (q / w)) w ∙ (ap (λ (z : ℕ). 2 ^ n * z) e ∙ mul-add (2 ^ n) (suc q) x))) in
+    (λ k. omega arith, λ k. omega arith)
+
+module _ (xs : List ℤ) (ws : List ℕ) (b c : Build) (v : World xs ws b) (v′ : World xs ws c) (f : Follows b c) (q : ℕ) (answer : List ℤ) (a : Answered b q answer) where
+  w : ℕ
+  w = 2 ^ length (b .tares)
+
+  x : ℕ
+  x = w - 1 - q % w
+
+  n : ℕ
+  n = length (f .front)
+
+  count : length (c .tares) ≡ n + length (b .tares)
+  unfolding n
+  count = ap length (f .tares-are) ∙ length-append (f .front) (b .tares)
+
+  weight : 2 ^ length (c .tares) ≡ 2 ^ n * w
+  unfolding w
+  weight = ap (λ (k : ℕ). 2 ^ k) count ∙ pow-add 2 n (length (b .tares))
+
+  x-low : 2 ^ n * x < 2 ^ length (c .tares)
+  unfolding x w
+  x-low =
+      let low : suc x ≤ w = omega (arith, pow-pos (length (b .tares))) in
+      let scaled : 2 ^ n * suc x ≤ 2 ^ n * w = mul-le-mul-left (2 ^ n) low in
+      omega (arith, weight, scaled, mul-suc (2 ^ n) x, pow-pos n)
+
+  -- the output keeps its number
+  defined : number-of (c .arena .records) (root c) (suc (q / w)) ≡ a .number
+  unfolding number-of w
+  defined =
+      ap₂ (λ (os : List Output) (r : ℕ). number-in os r (suc (q / 2 ^ length (b .tares)))) (f .outputs-are) (f .root-same) ∙
+      (number-in-kept (outputs (b .arena .records)) (f .more) (root b) (suc (q / 2 ^ length (b .tares))) (omega (arith, a .defined, a .positive)) ∙ a .defined)
+
+  answer-is : answer ≡ negℤ (pos (a .number)) ∷ set-tares (c .tares) (2 ^ n * x)
+  unfolding x w n
+  answer-is = a .is ∙ ap (λ (ls : List ℤ). negℤ (pos (a .number)) ∷ ls) (sym (ap (λ (ts : List ℕ). set-tares ts (2 ^ n * x)) (f .tares-are) ∙ set-tares-above (f .front) (b .tares) x))
+
+  w-pos : 0 < w
+  unfolding w
+  w-pos = pow-pos (length (b .tares))
+
+  later-law : (s : ℕ) → (s + 2 ^ n * x < suc (q / w) * (2 ^ n * w)) ↔ (s < 2 ^ n * suc q)
+  unfolding x
+  later-law s = shifted-law s q w n w-pos
+
+  -- an answer given in b, over a later world c
+  pub later-admits : (α : Assign) → Admits xs (c .arena .clauses) answer α ↔ (sum-of xs ws (c .built) (holds α) < 2 ^ length (f .front) * suc q)
+  unfolding n
+  later-admits α =
+      let s : ℕ = sum-of xs ws (c .built) (holds α) in
+      let main = admits xs ws (c .built) (c .arena) (root c) (c .tares) (counting xs ws c v′ (f .still-built)) (q / w) (2 ^ n * x) (a .number) defined (a .positive) x-low α in
+      let law = later-law s in (
+        λ h. law .0 (subst (λ (k : ℕ). s + 2 ^ n * x < suc (q / w) * k) weight (main .0 (subst (λ (ls : List ℤ). Admits xs (c .arena .clauses) ls α) answer-is h))),
+        λ h. subst (λ (ls : List ℤ). Admits xs (c .arena .clauses) ls α) (sym answer-is) (main .1 (subst (λ (k : ℕ). s + 2 ^ n * x < suc (q / w) * k) (sym weight) (law .1 h))),
+      )
+
+self-div : (k : ℕ) → k ≢ 0 → k / k ≡ 1
+self-div zero h = absurd (h refl)
+self-div (suc k) h = ap (λ (m : ℕ). m / suc k) (sym (one-mul (suc k))) ∙ mul-div-cancel 1 (omega arith)
+
+-- the finer divisor goes into the coarser one
+scale-is : (b c : Build) (f : Follows b c) → b .built / c .built ≡ 2 ^ length (f .front)
+scale-is b c f =
+    let positive : 1 ≤ c .built = not-zero (c .built) (f .still-built) in
+    ap (λ (k : ℕ). k / c .built) (sym (f .scale)) ∙ mul-div-cancel (2 ^ length (f .front)) positive
+  where
+    not-zero : (k : ℕ) → k ≢ 0 → 1 ≤ k
+    not-zero zero h = absurd (h refl)
+    not-zero (suc k) h = omega arith
+
+module _ (xs : List ℤ) (ws : List ℕ) (first : ℕ) (store : List ℕ) (accepted : start-refusal xs ws first store ≡ 0) (two : 2 ≤ length xs) (b : Build) (reached : Leads (new-build xs ws first) b) where
+  world : World xs ws b
+  world = leads-world xs ws (new-build xs ws first) b (started-world xs ws first store (lent xs ws first store accepted)) reached
+
+  inputs-two : 2 ≤ b .inputs
+  inputs-two = omega (arith, world .inputs-are)
+
+  -- Ask 13 of the change requests, its second sentence: an answer for u, asked as q = u divided by built over set divisor, admits in any later
+  -- world at divisor d' the loads whose sum at d' is at most (D/d')(q + 1) - 1
+  pub answer-later : (u : ℕ) (l : ℤ) (ls : List ℤ) → enforce b u ≡ some (l ∷ ls) → (c : Build) → Leads b c → (α : Assign) →
+      Admits xs (c .arena .clauses) (l ∷ ls) α ↔ (sum-of xs ws (c .built) (holds α) ≤ b .built / c .built * suc (asked b u) - 1)
+  answer-later u l ls e c later α =
+      let en : Enforced b u (l ∷ ls) = enforced b u l ls inputs-two e in
+      let f : Follows b c = leads-follows xs ws b c world (en .is-built) later in
+      let main = later-admits xs ws b c world (leads-world xs ws b c world later) f (asked b u) (l ∷ ls) (en .answered) α in
+      let same : b .built / c .built * suc (asked b u) ≡ 2 ^ length (f .front) * suc (asked b u) = ap (λ (k : ℕ). k * suc (asked b u)) (scale-is b c f) in
+      let some-more : 1 ≤ 2 ^ length (f .front) * suc (asked b u) = mul-pos (pow-pos (length (f .front))) (omega arith) in
+      (λ h. omega (arith, main .0 h), λ h. main .1 (omega arith))
+
+  -- Demand 3, a non-empty answer for u given while the set divisor equals the built divisor D: with all clauses of any later world, at divisor
+  -- d, it admits exactly the input assignments whose weights, each divided by d and rounded down, sum to at most (D/d)(u + 1) - 1
+  pub demand3 : (u : ℕ) (l : ℤ) (ls : List ℤ) → enforce b u ≡ some (l ∷ ls) → b .set ≡ b .built → (c : Build) → Leads b c → (α : Assign) →
+      Admits xs (c .arena .clauses) (l ∷ ls) α ↔ (sum-of xs ws (c .built) (holds α) ≤ b .built / c .built * suc u - 1)
+  demand3 u l ls e same c later α =
+      let en : Enforced b u (l ∷ ls) = enforced b u l ls inputs-two e in
+      subst (λ (q : ℕ). Admits xs (c .arena .clauses) (l ∷ ls) α ↔ (sum-of xs ws (c .built) (holds α) ≤ b .built / c .built * suc q - 1)) (undivided (en .is-built)) (answer-later u l ls e c later α)
+    where
+      undivided : b .built ≢ 0 → asked b u ≡ u
+      undivided n = ap (λ (m : ℕ). u / (b .built / m)) same ∙ (ap (λ (m : ℕ). u / m) (self-div (b .built) n) ∙ div-one u)
+
+  -- the first sentence, where the answer was given: exactly the sums up to u
+  pub demand3-here : (u : ℕ) (l : ℤ) (ls : List ℤ) → enforce b u ≡ some (l ∷ ls) → b .set ≡ b .built → (α : Assign) → Admits xs (b .arena .clauses) (l ∷ ls) α ↔ (sum-of xs ws (b .built) (holds α) ≤ u)
+  demand3-here u l ls e same α =
+      let en : Enforced b u (l ∷ ls) = enforced b u l ls inputs-two e in
+      let main = demand3 u l ls e same b here α in
+      let one : b .built / b .built * suc u - 1 ≡ u = ap (λ (k : ℕ). k * suc u - 1) (self-div (b .built) (en .is-built)) ∙ omega (arith, one-mul (suc u)) in
+      (λ h. omega (arith, main .0 h), λ h. main .1 (omega arith))
+
+-- weights undivided
+sum-one : (xs : List ℤ) (ws : List ℕ) → length xs ≡ length ws → sum-of xs ws 1 (λ x. true) ≡ total ws
+unfolding total
+sum-one [] [] e = refl
+sum-one [] (w ∷ ws) e = absurd (omega arith)
+sum-one (x ∷ xs) [] e = absurd (omega arith)
+sum-one (x ∷ xs) (w ∷ ws) e = ap₂ _+_ (mul-one (w / 1) ∙ div-one w) (sum-one xs ws (omega arith))
+
+-- what waits does not reach the set divisor, so the weights at it are those at the built one, shifted
+settled-sum : (xs : List ℤ) (ws : List ℕ) (b : Build) → World xs ws b → (n : b .built ≢ 0) → largest (b .queue) < b .set → (t : Truths) →
+    (sum-of xs ws (b .set) t ≡ b .built / b .set * sum-of xs ws (b .built) t) × (1 ≤ b .built / b .set)
+settled-sum xs ws b w n low t =
+    (ap (λ (d : ℕ). sum-of xs ws d t) set-is ∙ (w .if-built n .rest j p t up ∙ (omega (arith, none) ∙ ap (λ (k : ℕ). k * sum-of xs ws (b .built) t) (sym ratio))), subst (λ (k : ℕ). 1 ≤ k) (sym ratio) (pow-pos j))
+  where
+    f : Formed b
+    f = w .formed
+
+    p : ℕ
+    p = top-bit (b .set)
+
+    e : ℕ
+    e = top-bit (b .built)
+
+    j : ℕ
+    j = e - p
+
+    set-is : b .set ≡ 2 ^ p
+    set-is = f .set-power
+
+    p-low : p ≤ e
+    p-low = top-bit-least p (b .built) (omega (arith, set-is, f .if-built n .coarser))
+
+    up : p + j ≡ e
+    up = omega (arith, p-low)
+
+    none : waited (λ i. value (nodeAt (b .arena .records)) t i) (2 ^ p) (b .queue) ≡ 0
+    none = waited-none (λ i. value (nodeAt (b .arena .records)) t i) (2 ^ p) (b .queue) (All-map (λ q h. omega (arith, low, set-is)) (b .queue) (largest-all (b .queue) (largest (b .queue)) (omega arith)))
+
+    ratio : b .built / b .set ≡ 2 ^ j
+    ratio =
+        ap₂ (λ (x y : ℕ). x / y) (f .if-built n .power ∙ (ap (λ (k : ℕ). 2 ^ k) (sym up) ∙ (pow-add 2 p j ∙ mul-comm (2 ^ p) (2 ^ j)))) set-is ∙
+        mul-div-cancel (2 ^ j) (pow-pos p)
+
+module _ (xs : List ℤ) (ws : List ℕ) (first : ℕ) (store : List ℕ) (accepted : start-refusal xs ws first store ≡ 0) (two : 2 ≤ length xs) (b : Build) (reached : Leads (new-build xs ws first) b) where
+  -- Ask 13, its first sentence: a finer question to a coarser build. The answer admits exactly the loads whose weights, divided by the set
+  -- divisor and rounded down, sum to at most u
+  pub finer-question : (u : ℕ) (l : ℤ) (ls : List ℤ) → enforce b u ≡ some (l ∷ ls) → (α : Assign) → Admits xs (b .arena .clauses) (l ∷ ls) α ↔ (sum-of xs ws (b .set) (holds α) ≤ u)
+  finer-question u l ls e α =
+      let w : World xs ws b = world xs ws first store accepted two b reached in
+      let en : Enforced b u (l ∷ ls) = enforced b u l ls (inputs-two xs ws first store accepted two b reached) e in
+      let main = answer-later xs ws first store accepted two b reached u l ls e b here α in
+      let (is, positive) = settled-sum xs ws b w (en .is-built) (en .settled) (holds α) in
+      let k : ℕ = b .built / b .set in
+      let s : ℕ = sum-of xs ws (b .built) (holds α) in
+      let one : b .built / b .built * suc (u / k) - 1 ≡ u / k = ap (λ (m : ℕ). m * suc (u / k) - 1) (self-div (b .built) (en .is-built)) ∙ omega (arith, one-mul (suc (u / k))) in
+      let law : (s ≤ u / k) ↔ (k * s ≤ u) = bound-div u k s positive in
+      (λ h. omega (arith, is, law .0 (omega (arith, main .0 h, one))), λ h. main .1 (omega (arith, one, law .1 (omega (arith, is)))))
+    where
+      bound-div : (u k s : ℕ) → 1 ≤ k → (s ≤ u / k) ↔ (k * s ≤ u)
+      bound-div u k s h = (λ q. omega (arith, mul-le-mul-left k q, div-mul-le-self u k, mul-comm k (u / k)), λ q. over (leb s (u / k)) refl q)
+        where
+          over : (t : Bool) → leb s (u / k) ≡ t → k * s ≤ u → s ≤ u / k
+          over true e q = leb-true s (u / k) e
+          over false e q =
+              let up : suc (u / k) ≤ s = leb-false s (u / k) e in
+              let more : k * suc (u / k) ≤ k * s = mul-le-mul-left k up in
+              absurd (omega (arith, more, mul-suc k (u / k), mul-comm k (u / k), div-add-mod' u k, mod-lt u h))
+
+  -- Demand 3, an empty answer comes only if all inputs together, divided by the set divisor, stay within u
+  pub demand3-empty : (u : ℕ) → enforce b u ≡ some [] → sum-of xs ws (b .set) (λ x. true) ≤ u
+  unfolding built-answer root-answer output-answer unbuilt output-weight root-node
+  demand3-empty u e = first-test (leb (b .sum) u) refl (eqb (b .set) 1) refl (sym (two-enforce b u (inputs-two xs ws first store accepted two b reached)) ∙ e)
+    where
+      w : World xs ws b
+      w = world xs ws first store accepted two b reached
+
+      lengths : length xs ≡ length ws
+      lengths = lent xs ws first store accepted .lengths
+
+      q : ℕ
+      q = asked b u
+
+      v : ℕ
+      v = 2 ^ length (b .tares)
+
+      -- the bound reaches the root's maximum
+      high : (n : b .built ≢ 0) → largest (b .queue) < b .set → nodeAt (b .arena .records) (root b) .maximum ≤ q / v → sum-of xs ws (b .set) (λ x. true) ≤ u
+      high n low h =
+          let c : Counting xs ws (b .built) (b .arena) (root b) (b .tares) = counting xs ws b w n in
+          let s : ℕ = sum-of xs ws (b .built) (λ x. true) in
+          let k : ℕ = b .built / b .set in
+          let is : (s + tare-sum (λ x. true) (b .tares)) / v ≡ nodeAt (b .arena .records) (root b) .maximum =
+          sym (c .root-value (λ x. true)) ∙ value-all (nodeAt (b .arena .records)) (place (b .arena .records)) (w .formed .sound) (root b) in
+          let within : s + tare-sum (λ x. true) (b .tares) < suc (q / v) * v = bound-law (s + tare-sum (λ x. true) (b .tares)) (q / v) (length (b .tares)) .0 (omega arith) in
+          let small : s ≤ q = omega (arith, tare-all (b .tares), suc-mul (q / v) v, div-mul-le-self q v) in
+          let (set-is, positive) = settled-sum xs ws b w n low (λ x. true) in
+          omega (arith, set-is, mul-le-mul-left k small, div-mul-le-self u k, mul-comm k (u / k))
+
+      rooted : (n : b .built ≢ 0) → largest (b .queue) < b .set → (t : Bool) → leb (nodeAt (b .arena .records) (root b) .maximum) (q / v) ≡ t →
+          cond t (some []) (output-answer b q (number-of (b .arena .records) (root b) (suc (q / v)))) ≡ some [] → sum-of xs ws (b .set) (λ x. true) ≤ u
+      rooted n low true y k = high n low (leb-true (nodeAt (b .arena .records) (root b) .maximum) (q / v) y)
+      rooted n low false y k = absurd (numbered (number-of (b .arena .records) (root b) (suc (q / v))) k)
+        where
+          numbered : (m : ℕ) → output-answer b q m ≡ some [] → ⊥
+          numbered zero k = none-some [] k
+          numbered (suc m) k = nothing-some (negℤ (pos (suc m))) (set-tares (b .tares) (v - 1 - q % v)) (sym k)
+
+      built : (t : Bool) → eqb (b .built) 0 ≡ t → (d : Bool) → leb (b .set) (largest (b .queue)) ≡ d → cond t none (cond d none (root-answer b q)) ≡ some [] → sum-of xs ws (b .set) (λ x. true) ≤ u
+      built true z d y k = absurd (none-some [] k)
+      built false z true y k = absurd (none-some [] k)
+      built false z false y k =
+          rooted (eqb-false (b .built) 0 z) (leb-false (b .set) (largest (b .queue)) y) (leb (nodeAt (b .arena .records) (root b) .maximum) (q / v)) refl k
+
+      first-test : (t : Bool) → leb (b .sum) u ≡ t → (d : Bool) → eqb (b .set) 1 ≡ d → cond (t && d) (some []) (built-answer b u) ≡ some [] → sum-of xs ws (b .set) (λ x. true) ≤ u
+      first-test true h true y k =
+          let undivided : sum-of xs ws (b .set) (λ x. true) ≡ total ws = ap (λ (d : ℕ). sum-of xs ws d (λ x. true)) (eqb-true (b .set) 1 y) ∙ sum-one xs ws lengths in
+          omega (arith, leb-true (b .sum) u h, w .sum-is)
+      first-test true h false y k = built (eqb (b .built) 0) refl (leb (b .set) (largest (b .queue))) refl k
+      first-test false h d y k = built (eqb (b .built) 0) refl (leb (b .set) (largest (b .queue))) refl k

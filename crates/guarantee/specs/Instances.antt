@@ -1,0 +1,72 @@
+-- Demand 3 at document 01's worked cases, computed, so its hypotheses can be met. Assumes nothing.
+use mathlib.Core.Path.{_≡_, refl}
+use mathlib.Core.Logic.{_↔_}
+use mathlib.Core.Bool.{Bool, true, false}
+use mathlib.Core.Option.{some}
+use mathlib.Core.List.{List, [], _∷_}
+use Prim.Native.Nat.{ℕ, suc, _*_, _-_, _/_, _≤_}
+use native.Mathlib.Omega.{arith}
+use lib.Dec.{lit≤}
+use lib.ListN.{length, replicate}
+use lib.IntN.{ℤ, pos, negsuc}
+use Rattle.rules.specs.Build.{Build}
+use Rattle.rules.specs.Start.{start-refusal, new-build}
+use Rattle.rules.specs.Encode.{encode, nothing-asked, divisor-above}
+use Rattle.rules.specs.Enforce.{enforce}
+use Rattle.rules.specs.Numbers.{divisor-of}
+use Rattle.rules.specs.Refusals.{divisor-unlawful}
+use Rattle.rules.specs.Precision.{divisor-coarser}
+use Rattle.guarantee.specs.Truth.{Assign, holds}
+use Rattle.guarantee.specs.Answers.{sum-of, Admits}
+use Rattle.guarantee.specs.Worlds.{set-to, Leads, here, then-set, then-encode}
+use Rattle.guarantee.specs.Demand3.{demand3, demand3-here, demand3-empty}
+
+abbrev xs : List ℤ
+xs = pos 1 ∷ pos 2 ∷ pos 3 ∷ []
+
+abbrev ws : List ℕ
+ws = 1 ∷ 2 ∷ 3 ∷ []
+
+-- P3: literals 1, 2, 3 with weights 1, 2, 3, first fresh 4, range 2 to 4
+abbrev p3 : Build
+p3 = encode (new-build xs ws 4) 2 4
+
+p3-reached : Leads (new-build xs ws 4) p3
+unfolding new-build encode nothing-asked divisor-above
+p3-reached = then-encode 2 4 here refl (lit≤ tt)
+
+-- P4: the answer for u = 2, -10 and 4, admits exactly the sums up to 2
+p4-two : (α : Assign) → Admits xs (p3 .arena .clauses) (negsuc 9 ∷ pos 4 ∷ []) α ↔ (sum-of xs ws 1 (holds α) ≤ 2)
+unfolding new-build encode enforce start-refusal
+p4-two α = demand3-here xs ws 4 (replicate 48 0) refl (lit≤ tt) p3 p3-reached 2 (negsuc 9) (pos 4 ∷ []) refl refl α
+
+-- and the one for u = 6 is empty, since all together weigh 6
+p4-six : sum-of xs ws 1 (λ x. true) ≤ 6
+unfolding new-build encode enforce start-refusal
+p4-six = demand3-empty xs ws 4 (replicate 48 0) refl (lit≤ tt) p3 p3-reached 6 refl
+
+-- P6: weights 9, 15 at divisor 8, output 2 encoded, then refined to 1
+abbrev ys : List ℤ
+ys = pos 1 ∷ pos 2 ∷ []
+
+abbrev vs : List ℕ
+vs = 9 ∷ 15 ∷ []
+
+abbrev p6 : Build
+p6 = encode (set-to (new-build ys vs 3) (divisor-of 8)) 1 2
+
+abbrev p6-refined : Build
+p6-refined = encode (set-to p6 (divisor-of 1)) 0 1
+
+p6-reached : Leads (new-build ys vs 3) p6
+unfolding new-build encode set-to nothing-asked divisor-above divisor-of divisor-unlawful divisor-coarser
+p6-reached = then-encode 1 2 (then-set 8 here refl refl) refl (lit≤ tt)
+
+p6-later : Leads p6 p6-refined
+unfolding new-build encode set-to nothing-asked divisor-above divisor-of divisor-unlawful divisor-coarser
+p6-later = then-encode 0 1 (then-set 1 here refl refl) refl (lit≤ tt)
+
+-- the earlier answer for u = 1, -4, after refinement to 1, admits exactly the sums up to 15
+p6-earlier : (α : Assign) → Admits ys (p6-refined .arena .clauses) (negsuc 3 ∷ []) α ↔ (sum-of ys vs 1 (holds α) ≤ 15)
+unfolding new-build encode set-to enforce start-refusal divisor-of
+p6-earlier α = demand3 ys vs 3 (replicate 32 0) refl (lit≤ tt) p6 p6-reached 1 (negsuc 3) [] refl refl p6-refined p6-later α

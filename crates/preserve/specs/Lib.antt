@@ -1,0 +1,13 @@
+-- What accepted calls leave is well formed again.
+pub mod Starts
+pub mod Sets
+pub mod Given
+pub mod Gathered
+pub mod Builds
+pub mod Arenas
+pub mod Refines
+pub mod Refinements
+pub mod Encodes
+pub mod Reaches
+pub mod Altered
+pub mod Sizes

@@ -1,0 +1,192 @@
+-- An accepted start is well formed: its records are a leaf for each literal, then an entry for each weight. Assumes nothing.
+use mathlib.Core.Path.{_≡_, refl, sym, _∙_, ap, ap₂, subst}
+use mathlib.Core.Logic.{_≢_, inl}
+use mathlib.Core.Bool.{Bool, true, false, not, cond, _||_}
+use mathlib.Core.List.{List, [], _∷_, _++_, map, zipWith}
+use Prim.Native.Nat.{ℕ, zero, suc, _+_, _*_, _≤_, _<_}
+use native.Mathlib.Omega.{arith}
+use lib.Dec.{ltb, eqb, leb}
+use lib.ListN.{length, length-map, length-append}
+use lib.IntN.{ℤ, pos, natAbs}
+use borrow.Author.Tests.{ltb-false, eqb-false, eqb-true, leb-true, ltb-true}
+use Rattle.rules.specs.Lists.{all, total, rising, padded}
+use Rattle.rules.specs.Numbers.{lawful, lawful-weight, capacity, most-inputs, most-variable}
+use Rattle.rules.specs.Digits.{top-bit, digits, bit-length}
+use Rattle.rules.specs.Refusals.{first-of, lists-differ, literal-unlawful, literal-twice, weight-unlawful, fresh-unlawful}
+use Rattle.rules.specs.Records.{Node, Output, Entry, Record, node, waits, nodeAt, node-of, outputs, leaf-node}
+use Rattle.rules.specs.Build.{Build, records, clause-total, clause-mark, clause-words}
+use Rattle.rules.specs.WellFormed.{known, is-node, well-formed}
+use Rattle.rules.specs.Start.{start-no-room, start-refusal, new-build, start, start-end}
+use Rattle.laws.specs.Words.{both}
+use Rattle.laws.specs.Facts.{All, All-map, All-image, All-source, All-rising, neither, not-not, all-facts, total-cong, length-total, occurs, rising-has}
+use Rattle.laws.specs.Places.{place}
+use Rattle.laws.specs.Formed.{Ruled, Defined, Taken, Waits, variables-of, Formed}
+use Rattle.laws.specs.Grows.{ruled-leaf, ruled-dummy}
+use Rattle.laws.specs.Whole.{written}
+
+-- the records and the queue of a new build
+abbrev pub leaves : List ℤ → List Record
+leaves xs = map (λ x. node (leaf-node x)) xs
+
+abbrev queued : ℕ → List ℕ → List Entry
+queued k ws = zipWith (λ n w. record { node = n; weight = w }) (rising (length ws) k) ws
+
+queued-nodes : (k : ℕ) (ws : List ℕ) → map (λ (e : Entry). e .node) (queued k ws) ≡ rising (length ws) k
+unfolding rising zipWith
+queued-nodes k [] = refl
+queued-nodes k (w ∷ ws) = ap (λ (t : List ℕ). k ∷ t) (queued-nodes (suc k) ws)
+
+queued-weights : (k : ℕ) (ws : List ℕ) → map (λ (e : Entry). e .weight) (queued k ws) ≡ ws
+unfolding rising zipWith
+queued-weights k [] = refl
+queued-weights k (w ∷ ws) = ap (λ (t : List ℕ). w ∷ t) (queued-weights (suc k) ws)
+
+queued-length : (k : ℕ) (ws : List ℕ) → length (queued k ws) ≡ length ws
+queued-length k ws = sym (length-map (queued k ws) (λ (e : Entry). e .weight)) ∙ ap length (queued-weights k ws)
+
+-- place i of the literals holds a leaf
+pub leaf-at : (xs : List ℤ) (i : ℕ) → i < length xs → (x : ℤ) × (nodeAt (leaves xs) i ≡ leaf-node x) × (place (leaves xs) i ≡ true)
+unfolding nodeAt node-of place is-node
+leaf-at [] i h = absurd (omega arith)
+leaf-at (x ∷ xs) zero h = (x, refl, refl)
+leaf-at (x ∷ xs) (suc i) h = leaf-at xs i (omega arith)
+
+leaves-ruled : (at : ℕ → Node) (pl : ℕ → Bool) (xs : List ℤ) → All (λ x. lawful x ≡ true) xs → (n : ℕ) → Ruled at pl (nodeAt (leaves xs) n)
+unfolding nodeAt node-of
+leaves-ruled at pl [] h n = ruled-dummy at pl
+leaves-ruled at pl (x ∷ xs) h zero = ruled-leaf at pl x (h .0)
+leaves-ruled at pl (x ∷ xs) h (suc n) = leaves-ruled at pl xs (h .1) n
+
+no-outputs : (xs : List ℤ) → outputs (leaves xs) ≡ []
+unfolding outputs
+no-outputs [] = refl
+no-outputs (x ∷ xs) = no-outputs xs
+
+-- what an accepted start was lent
+pub record Lent (xs : List ℤ) (ws : List ℕ) (first : ℕ) (store : List ℕ) : Type 0 where
+  pub lengths : length xs ≡ length ws
+  pub few : length xs ≤ 256
+  pub literals : All (λ x. lawful x ≡ true) xs
+  pub weights : All (λ w. (1 ≤ w) × (w ≤ 1048575)) ws
+  pub first-low : 1 ≤ first
+  pub first-few : first ≤ 1000000000
+  pub variables-low : All (λ x. natAbs x < first) xs
+  pub room : 2 * length xs ≤ capacity store
+
+pub not-first : (k : ℕ) (b : Bool) (rest : ℕ) → cond b (suc k) rest ≡ 0 → (b ≡ false) × (rest ≡ 0)
+not-first k true rest e = absurd (omega arith)
+not-first k false rest e = (refl, e)
+
+pub lent : (xs : List ℤ) (ws : List ℕ) (first : ℕ) (store : List ℕ) → start-refusal xs ws first store ≡ 0 → Lent xs ws first store
+unfolding start-refusal first-of lists-differ literal-unlawful weight-unlawful fresh-unlawful start-no-room lawful-weight
+lent xs ws first store e =
+    let (one, e₁) = not-first 0 (lists-differ xs ws) _ e in
+    let (two, e₂) = not-first 1 (literal-unlawful xs) _ e₁ in
+    let (three, e₃) = not-first 2 (literal-twice xs) _ e₂ in
+    let (four, e₄) = not-first 3 (weight-unlawful ws) _ e₃ in
+    let (five, e₅) = not-first 4 (fresh-unlawful xs first) _ e₄ in
+    let (seven, e₆) = not-first 6 (start-no-room xs store) _ e₅ in
+    let (unequal, over) = neither (not (eqb (length xs) (length ws))) (ltb most-inputs (length xs)) one in
+    let (bounds, inputs) = neither (eqb first 0 || ltb most-variable first) (not (all (λ x. ltb (natAbs x) first) xs)) five in
+    let (none, top) = neither (eqb first 0) (ltb most-variable first) bounds in
+    let positive : first ≢ 0 = eqb-false first 0 none in
+    record {
+      lengths = eqb-true (length xs) (length ws) (not-not _ unequal);
+      few = ltb-false most-inputs (length xs) over;
+      literals = all-facts lawful (λ x h. h) xs (not-not _ two);
+      weights = all-facts lawful-weight (λ w h. let (a, b) = both (leb 1 w) _ h in (leb-true _ _ a, leb-true _ _ b)) ws (not-not _ four);
+      first-low = omega arith;
+      first-few = ltb-false most-variable first top;
+      variables-low = all-facts (λ x. ltb (natAbs x) first) (λ x h. ltb-true _ _ h) xs (not-not _ inputs);
+      room = ltb-false (capacity store) (2 * length xs) seven;
+    }
+
+module _ (xs : List ℤ) (ws : List ℕ) (first : ℕ) (store : List ℕ) (l : Lent xs ws first store) where
+  there : (i : ℕ) → i < length ws → place (leaves xs) i ≡ true
+  there i h =
+      let same : length xs ≡ length ws = l .lengths in
+      leaf-at xs i (omega arith) .2
+
+  one : (i : ℕ) → i < length ws → nodeAt (leaves xs) i .maximum ≡ 1
+  unfolding leaf-node
+  one i h =
+      let same : length xs ≡ length ws = l .lengths in
+      ap (λ (x : Node). x .maximum) (leaf-at xs i (omega arith) .1)
+
+  -- a fact of every input holds of every entry
+  entries-are : (P : ℕ → Type 0) → ((i : ℕ) → i < length ws → P i) → All (λ e. P (e .node)) (queued 0 ws)
+  entries-are P h = All-source P (λ (e : Entry). e .node) (queued 0 ws)
+      (subst (λ (t : List ℕ). All P t) (sym (queued-nodes 0 ws)) (All-rising P (length ws) 0 (λ i a b. h i (omega arith))))
+
+  waits-new : Waits (nodeAt (leaves xs)) (place (leaves xs)) (queued 0 ws)
+  waits-new =
+      let same : length xs ≡ length ws = l .lengths in
+      let few : length xs ≤ 256 = l .few in
+      let count : length (queued 0 ws) ≡ length ws = queued-length 0 ws in
+      let ones : total (map (λ (e : Entry). nodeAt (leaves xs) (e .node) .maximum) (queued 0 ws)) ≡ total
+      (map (λ (e : Entry). 1) (queued 0 ws)) =
+      total-cong (λ (e : Entry). nodeAt (leaves xs) (e .node) .maximum) (λ e. 1) (queued 0 ws)
+      (entries-are (λ i. nodeAt (leaves xs) i .maximum ≡ 1) one) in
+      record {
+        nodes-wait = entries-are (λ i. place (leaves xs) i ≡ true) there;
+        few = omega arith;
+        maxima-few = omega (arith, ones, length-total (queued 0 ws));
+        weights = All-source (λ w. (1 ≤ w) × (w ≤ 1048575)) (λ (e : Entry). e .weight) (queued 0 ws)
+            (subst (λ (t : List ℕ). All (λ w. (1 ≤ w) × (w ≤ 1048575)) t) (sym (queued-weights 0 ws)) (l .weights));
+      }
+
+  -- a new build is well formed
+  pub new-formed : Formed (new-build xs ws first)
+  unfolding new-build clause-total clause-mark clause-words known waits leaf-node occurs top-bit digits bit-length
+  new-formed =
+      let low : 1 ≤ first = l .first-low in
+      let few : first ≤ 1000000000 = l .first-few in
+      let none : outputs (leaves xs) ≡ [] = no-outputs xs in
+      record {
+        all-known = All-image (λ r. known r ≡ true) (λ x. node (leaf-node x)) xs (All-map (λ x h. refl) xs (l .literals));
+        none-waits = All-image (λ r. not (waits r) ≡ true) (λ x. node (leaf-node x)) xs (All-map (λ x h. refl) xs (l .literals));
+        first-low = low;
+        first-high = omega arith;
+        fresh-few = omega arith;
+        clauses-few = omega arith;
+        inputs-few = l .few;
+        inputs-first = λ i h. let (x, is, p) = leaf-at xs i h in (x, ap (λ (y : Node). y .kind) is);
+        sound = leaves-ruled (nodeAt (leaves xs)) (place (leaves xs)) xs (l .literals);
+        defined = subst (λ (os : List Output). Defined (nodeAt (leaves xs)) (place (leaves xs)) os) (sym none)
+            (record { valued = tt; rise = tt; differ = tt });
+        taken = subst (λ (os : List Output). Taken (variables-of (nodeAt (leaves xs)) (length xs)) first
+            (map (λ (o : Output). o .number) os ++ [])) (sym none)
+            (record { once = λ n. omega arith; above-inputs = tt; below-fresh = tt });
+        waiting-are = waits-new;
+        spares = λ i half a b e. (refl, inl refl);
+        entries-spare = entries-are (λ i. occurs i [] ≡ 0) (λ i h. refl);
+        set-power = refl;
+        if-unbuilt = λ z. record {
+          no-tare = refl;
+          no-bucket = refl;
+          count = queued-length 0 ws ∙ sym (l .lengths);
+          each-waits = λ i h. subst (λ (t : List ℕ). 1 ≤ occurs i t) (sym (queued-nodes 0 ws))
+              (rising-has (length ws) 0 i (omega arith) (omega (arith, l .lengths)));
+          sum-is = ap total (queued-weights 0 ws);
+        };
+        if-built = λ n. absurd (n refl);
+      }
+
+  new-length : length (records (new-build xs ws first)) ≡ length xs + length ws
+  unfolding records new-build
+  new-length =
+      length-append (leaves xs) _ ∙ ap₂ (λ x y. x + y) (length-map xs (λ x. node (leaf-node x)))
+      (length-map (queued 0 ws) _ ∙ queued-length 0 ws)
+
+-- an accepted start is well formed
+pub accepted-start : (xs : List ℤ) (ws : List ℕ) (first : ℕ) (store : List ℕ) (clauses : List ℤ) → start-refusal xs ws first store ≡ 0 →
+    well-formed (start xs ws first store clauses .answer .state) (start xs ws first store clauses .store)
+    (start xs ws first store clauses .clauses) ≡ true
+unfolding start start-end new-build clause-mark clause-words
+accepted-start xs ws first store clauses e =
+    let b : Build = new-build xs ws first in
+    let l : Lent xs ws first store = lent xs ws first store e in
+    ap (λ (n : ℕ). well-formed (start-end n b store clauses .answer .state) (start-end n b store clauses .store)
+    (start-end n b store clauses .clauses)) e ∙
+    written b store (padded (pos 0) (length clauses) []) (new-formed xs ws first store l)
+    (omega (arith, new-length xs ws first store l, l .lengths, l .room)) (omega arith)
