@@ -2,7 +2,7 @@
 use mathlib.Core.Path.{_≡_, refl, sym, _∙_, ap, ap₂, subst}
 use mathlib.Core.Bool.{true}
 use mathlib.Core.List.{List}
-use Prim.Native.Nat.{ℕ, zero, suc, _+_, _*_, _-_, _/_, _≤_, _<_}
+use Prim.Native.Nat.{ℕ, zero, suc, _+_, _*_, _-_, _/_, _≤_, _<_, min}
 use native.Mathlib.Omega.{arith}
 use lib.Dec.{leb}
 use lib.ListN.{length, take, replicate}
@@ -97,7 +97,7 @@ written b store clauses f room words =
     let image : length (imageOf rs) ≡ 8 * length rs = image-length rs in
     let whole : length (padded 0 (length store) (imageOf rs)) ≡ length (imageOf rs) + (length store - length (imageOf rs)) =
     padded-length 0 (length store) (imageOf rs) in
-    let fits : length rs ≤ length store / 8 = room in
-    and-true (and-true (le-leb (length rs) (length (padded 0 (length store) (imageOf rs)) / 8) (omega arith)) (le-leb _ _ words))
+    let fits : length rs ≤ min (length store / 8) 4294967296 = room in
+    and-true (and-true (le-leb (length rs) (min (length (padded 0 (length store) (imageOf rs)) / 8) 4294967296) (omega arith)) (le-leb _ _ words))
     (ap (λ (t : List Record). all (λ c. c) (clauses-over (stateOf b) t))
     (records-of-image rs (replicate (length store - length (imageOf rs)) 0)) ∙ clauses-of b f)

@@ -2,7 +2,7 @@
 use mathlib.Core.Path.{_≡_, refl, sym, _∙_, ap, subst}
 use mathlib.Core.Bool.{Bool, true, false}
 use mathlib.Core.List.{List, [], _∷_, _++_, map, append-nil}
-use Prim.Native.Nat.{ℕ, zero, suc, _*_, _-_, _/_, _≤_, _<_}
+use Prim.Native.Nat.{ℕ, zero, suc, _*_, _-_, _/_, _≤_, _<_, min}
 use native.Mathlib.Omega.{arith}
 use lib.Dec.{eqb, leb, ltb}
 use lib.ListN.{length, length-take, take, replicate}
@@ -106,7 +106,7 @@ kept-records : (s : State) (store : List ℕ) → s .records ≤ capacity store 
 unfolding held capacity padded
 kept-records s store room =
     let n : ℕ = s .records in
-    let fits : n ≤ length store / 8 = room in
+    let fits : n ≤ min (length store / 8) 4294967296 = room in
     let front : List ℕ = take (8 * n) store in
     let size : length front ≡ 8 * n = omega (arith, length-take (8 * n) store) in
     let zeros : List ℕ = replicate (length store - length front) 0 in
@@ -122,11 +122,11 @@ unfolding no-room-end well-formed well-formed-clauses all marks-within fresh-ahe
 no-room-keeps s store clauses work w h =
     let (marks, rest) = both (marks-within s store clauses) (all (λ c. c) (clauses-over s (held s store))) w in
     let (recs, words) = both (leb (s .records) (capacity store)) (leb (s .words) (length clauses)) marks in
-    let room : s .records ≤ length store / 8 = leb-true _ _ recs in
+    let room : s .records ≤ min (length store / 8) 4294967296 = leb-true _ _ recs in
     let front : List ℕ = take (record-words * s .records) store in
     let same : held s (padded 0 (length store) front) ≡ held s store = kept-records s store room in (
       and-true
-          (and-true (le-leb (s .records) (length (padded 0 (length store) front) / 8)
+          (and-true (le-leb (s .records) (min (length (padded 0 (length store) front) / 8) 4294967296)
           (omega (arith, padded-length 0 (length store) front, length-take (8 * s .records) store)))
           (le-leb (s .words) (length (padded (pos 0) (length clauses) (take (s .words) clauses)))
           (omega (arith, leb-true (s .words) (length clauses) words, padded-length (pos 0) (length clauses) (take (s .words) clauses)))))

@@ -1,7 +1,7 @@
 -- "Numbers that hold". Assumes nothing.
 use mathlib.Core.Bool.{Bool, _&&_}
 use mathlib.Core.List.{List}
-use Prim.Native.Nat.{ℕ, zero, suc, _/_}
+use Prim.Native.Nat.{ℕ, zero, suc, _/_, min}
 use lib.Dec.{leb}
 use lib.ListN.{length}
 use lib.IntN.{ℤ, natAbs}
@@ -47,6 +47,6 @@ unfoldable pub divisor-of : ℕ → ℕ
 divisor-of zero = 1
 divisor-of (suc d) = suc d
 
--- a store's capacity is its length divided by 8 rounded down
+-- a store's capacity is its length divided by 8 rounded down; a place is a 32-bit word, so it is at most 2^32
 unfoldable pub capacity : List ℕ → ℕ
-capacity store = length store / record-words
+capacity store = min (length store / record-words) 4294967296
