@@ -89,6 +89,11 @@ def of_kind(kind, records):
     return [record for record in records if isinstance(record, kind)]
 
 
+def capacity(store):
+    """A place is a 32-bit word, so no store holds more records than that names."""
+    return min(len(store) // 8, 2**32)
+
+
 def lay(words, lent):
     """The words at the front of what was lent, zeros after them."""
     lent[:] = words + [0] * (len(lent) - len(words))
@@ -98,7 +103,7 @@ def lay(words, lent):
 
 
 def well_formed(state, store, clauses):
-    if 8 * state.records > len(store) or state.words > len(clauses):
+    if state.records > capacity(store) or state.words > len(clauses):
         return False
     records = records_of(store, state.records)
     return None not in records and all(rule(state, records) for rule in WELL_FORMED)
@@ -502,7 +507,7 @@ def start_refusal(lits, weights, first, store):
         return 4
     if not 1 <= first <= MOST_VARIABLE or any(abs(literal) >= first for literal in lits):
         return 5
-    if len(store) // 8 < 2 * len(lits):
+    if capacity(store) < 2 * len(lits):
         return 7
     return 0
 
@@ -571,7 +576,7 @@ def encode(build, lo, end):
 
 
 def has_room(state, store, clauses):
-    return state.records <= len(store) // 8 and state.words <= len(clauses) and state.fresh <= MOST_VARIABLE + 1
+    return state.records <= capacity(store) and state.words <= len(clauses) and state.fresh <= MOST_VARIABLE + 1
 
 
 # ---- The calls: enforce and coarse

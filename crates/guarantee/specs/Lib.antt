@@ -25,3 +25,4 @@ pub mod Worlds
 pub mod Reached
 pub mod Demand3
 pub mod Instances
+pub mod Calls

@@ -205,7 +205,7 @@ pair-sat ρ rs half l r number v a b sl sr so e = go (leb a (value at (holds ρ)
         (or-left false (so ∙ le-leb v (value at (holds ρ) l + counts half (value at (holds ρ) r))
         (omega (arith, leb-true a (value at (holds ρ) l) p, asks-counts half b (value at (holds ρ) r) (leb-true (asks half b) (value at (holds ρ) r) q))))))
 
-lawful-positive : (x : ℤ) → lawful x ≡ true → 1 ≤ natAbs x
+pub lawful-positive : (x : ℤ) → lawful x ≡ true → 1 ≤ natAbs x
 unfolding lawful
 lawful-positive x h = go (leb 1 (natAbs x)) refl h
   where

@@ -141,3 +141,47 @@ encode-after cs b lo end = go (nothing-asked b lo end)
         earlier cs (elim t [ true ↦ b | false ↦ encode-outputs (prepared b) lo end ])
     go true = refl
     go false = ap (λ (c : Build). encode-outputs c lo end) (prepared-after cs b) ∙ outputs-after cs (prepared b) lo end
+
+-- the build with other counts of the clauses that stand already
+unfoldable pub recounted : ℕ → ℕ → Build → Build
+recounted clauses words b = record {
+  inputs = b .inputs;
+  sum = b .sum;
+  first = b .first;
+  set = b .set;
+  built = b .built;
+  tares = b .tares;
+  buckets = b .buckets;
+  queue = b .queue;
+  arena = b .arena;
+  clauses-before = clauses;
+  words-before = words;
+}
+
+prepared-recounted : (n m : ℕ) (b : Build) → prepared (recounted n m b) ≡ recounted n m (prepared b)
+unfolding prepared unbuilt due build-structure merge-structures patched tares-left-out gathered with-arena restructured recounted
+prepared-recounted n m b = go (unbuilt b) (due b)
+  where
+    go : (t u : Bool) →
+        (elim t [
+          | true ↦ build-structure (recounted n m b)
+          | false ↦ elim u [ true ↦ merge-structures (recounted n m b) | false ↦ recounted n m b ]
+        ]) ≡ recounted n m (elim t [ true ↦ build-structure b | false ↦ elim u [ true ↦ merge-structures b | false ↦ b ] ])
+    go true u = refl
+    go false true = refl
+    go false false = refl
+
+outputs-recounted : (n m : ℕ) (b : Build) (lo end : ℕ) → encode-outputs (recounted n m b) lo end ≡ recounted n m (encode-outputs b lo end)
+unfolding encode-outputs root-values root-node root output-weight with-arena restructured recounted
+outputs-recounted n m b lo end = refl
+
+-- encode does not look at these counts
+pub encode-recounted : (n m : ℕ) (b : Build) (lo end : ℕ) → encode (recounted n m b) lo end ≡ recounted n m (encode b lo end)
+unfolding encode nothing-asked recounted
+encode-recounted n m b lo end = go (nothing-asked b lo end)
+  where
+    go : (t : Bool) →
+        (elim t [ true ↦ recounted n m b | false ↦ encode-outputs (prepared (recounted n m b)) lo end ]) ≡
+        recounted n m (elim t [ true ↦ b | false ↦ encode-outputs (prepared b) lo end ])
+    go true = refl
+    go false = ap (λ (c : Build). encode-outputs c lo end) (prepared-recounted n m b) ∙ outputs-recounted n m (prepared b) lo end

@@ -147,6 +147,10 @@ negated-small zero h = refl
 negated-small (suc zero) h = refl
 negated-small (suc (suc w)) h = absurd (omega arith)
 
+word-of-variable : (n : ℕ) → literal-word (pos n) ≡ 2 * n
+unfolding literal-word
+word-of-variable n = refl
+
 word-of-negation : (n : ℕ) → 0 < n → literal-word (negℤ (pos n)) ≡ 2 * n + 1
 unfolding literal-word
 word-of-negation zero h = absurd (omega arith)
@@ -173,3 +177,17 @@ neg-fits n h = rw (toZ-pos w32 h, +ℤ-idl (negℤ (pos n))) (record { sfits = n
 
 pub neg-is : (n : ℕ) → n < 2 ^ 31 → toZ w32 (ofZ w32 (pos 0 -ℤ toZ w32 n)) ≡ negℤ (pos n)
 neg-is n h = toZ-ofZ (neg-fits n h) ∙ rw (toZ-pos w32 h, +ℤ-idl (negℤ (pos n)))
+
+-- the literal of a word names it, but for 1, which is no literal's
+pub word-literal-word : (w : ℕ) → (w ≡ 1 → ⊥) → literal-word (word-literal w) ≡ w
+word-literal-word w h = go (eqb (w % 2) 0) refl
+  where
+    go : (b : Bool) → eqb (w % 2) 0 ≡ b → literal-word (word-literal w) ≡ w
+    go true e =
+        let even : w % 2 ≡ 0 = eqb-true (w % 2) 0 e in
+        let up : 2 * (w / 2) ≡ w = omega arith in
+        ap literal-word (word-even w even) ∙ (word-of-variable (w / 2) ∙ up)
+    go false e =
+        let odd : w % 2 ≡ 0 → ⊥ = eqb-false (w % 2) 0 e in
+        let up : 2 * (w / 2) + 1 ≡ w = omega arith in
+        ap literal-word (word-odd w odd) ∙ (word-of-negation (w / 2) (omega arith) ∙ up)

@@ -1,6 +1,7 @@
 -- The two ends of a promise: what is lent is carried, and what is held is determined; a change in place begins a new entry;
 -- zeroing past the marks settles every word. Assumes nothing.
 use mathlib.Core.Path.{_≡_, refl, sym, ap, ap₂, _∙_, subst}
+use mathlib.Core.Logic.{_⊎_, inl, inr}
 use mathlib.Core.Bool.{Bool, true, false}
 use mathlib.Core.List.{List, [], _∷_, _++_, append-assoc, append-nil}
 use Prim.Native.Nat.{ℕ, zero, suc, _+_, _*_, _-_, _/_, _≤_, _<_, max}
@@ -17,8 +18,9 @@ use Rattle.rules.specs.Build.{clause-words}
 use Rattle.laws.specs.Words.{record-image-length, image-length, records-of-image}
 use Rattle.records.specs.declared.Marks.{Marks}
 use Rattle.records.specs.Words.{put-record}
-use Rattle.records.specs.Carries.{St, st, storeOf, bufferOf, marksOf, laid, written, peak, Fits, Holds, Carries, Stores, Lent, read-arena}
+use Rattle.records.specs.Carries.{St, st, storeOf, bufferOf, marksOf, laid, written, peak, Fits, Holds, Carries, Steps, Makes, Lent, read-arena}
 use Rattle.records.proofs.Lay.{laid-length, laid-again, laid-front, front-laid, image-append, image-more}
+use Rattle.records.proofs.Grow.{fits-or}
 use Rattle.records.proofs.Step.{going}
 
 pub records-length : (s : List ℕ) (n : ℕ) → length (recordsOf s n) ≡ n
@@ -78,13 +80,35 @@ holds-same e (st s c m) (st s′ c′ m′) t h k =
     (marks-same m m′ (h .records-is ∙ sym (k .records-is)) (h .words-is ∙ sym (k .words-is)) (h .fresh-is ∙ sym (k .fresh-is))
     (h .clauses-is ∙ sym (k .clauses-is)) (h .not-full ∙ sym (k .not-full)))
 
--- any two memories that carry the same and are not full are the same, word for word
-pub carries-same : (e σ τ : St) (t : Arena) → Carries e σ t → Carries e τ t → Fits e t → σ ≡ τ
-carries-same e σ τ t h k f = holds-same e σ τ t (h .fit f) (k .fit f)
+-- two ends of one step agree: word for word where the arena that it leads to fits, and on the full mark everywhere
+abbrev pub Same-end : St → St → St → (Arena → Arena) → Type 0
+Same-end σ τ τ′ f = (e : St) (t : Arena) → Carries e σ t → (Fits e (f t) → τ ≡ τ′) × (marksOf τ .full ≡ marksOf τ′ .full)
 
--- one that carries what does not fit is marked full, so both are or none
-pub full-same : (e σ τ : St) (t : Arena) → Carries e σ t → Carries e τ t → marksOf σ .full ≡ false → marksOf τ .full ≡ false
-full-same e σ τ t h k q = k .fit (going e σ t h q .0) .not-full
+-- and so on what the step names
+abbrev pub Same-made : {X : Type 0} → St → St → St → X → X → (Arena → Arena × X) → Type 0
+Same-made σ τ τ′ x x′ f =
+    (e : St) (t : Arena) → Carries e σ t → (Fits e (f t .0) → (τ ≡ τ′) × (x ≡ x′)) × (marksOf τ .full ≡ marksOf τ′ .full)
+
+full-same : (e τ τ′ : St) (t : Arena) → Carries e τ t → Carries e τ′ t → marksOf τ .full ≡ marksOf τ′ .full
+full-same e τ τ′ t h k = go (fits-or e t)
+  where
+    go : Fits e t ⊎ (Fits e t → ⊥) → marksOf τ .full ≡ marksOf τ′ .full
+    go (inl f) = h .fit f .not-full ∙ sym (k .fit f .not-full)
+    go (inr f) = h .full f ∙ sym (k .full f)
+
+-- a step has one end
+pub steps-determined : (σ τ τ′ : St) (f : Arena → Arena) → Steps σ τ f → Steps σ τ′ f → Same-end σ τ τ′ f
+steps-determined σ τ τ′ f p q e t h =
+    let a = p .go e t h in
+    let b = q .go e t h in
+    (λ fit. holds-same e τ τ′ (f t) (a .fit fit) (b .fit fit), full-same e τ τ′ (f t) a b)
+
+-- and names one thing
+pub makes-determined : {X : Type 0} (σ τ τ′ : St) (x x′ : X) (f : Arena → Arena × X) → Makes σ τ x f → Makes σ τ′ x′ f → Same-made σ τ τ′ x x′ f
+makes-determined σ τ τ′ x x′ f p q e t h =
+    let a = p .go e t h in
+    let b = q .go e t h in
+    (λ fit. (holds-same e τ τ′ (f t .0) (a .0 .fit fit) (b .0 .fit fit), a .1 fit ∙ sym (b .1 fit)), full-same e τ τ′ (f t .0) (a .0) (b .0))
 
 -- the words of record n replaced -------------------------------------------------------------------------------------
 

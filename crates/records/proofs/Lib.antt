@@ -6,4 +6,6 @@ pub mod Step
 pub mod Clause
 pub mod Zero
 pub mod Entry
+pub mod Small
 pub mod Leaves
+pub mod Determined

@@ -8,7 +8,8 @@ use lib.Dec.{eqb, ltb}
 use lib.ListN.{length, getD, take, length-take, List·getD-eq-default, getD-replicate}
 use lib.Seq.{getD-take}
 use borrow.Author.Tests.{ltb-true, ltb-false, lt-ltb, eqb-true, eqb-false}
-use Rattle.rules.specs.Records.{Kind, leaf, join, dummy, Record, node, output, waiting, unknown, node-image, record-image, imageOf, node-of, nodeAt, dummy-node, left-link, right-link}
+use lib.IntN.{ℤ, pos}
+use Rattle.rules.specs.Records.{Kind, leaf, join, dummy, Output, Entry, literal-word, Record, node, output, waiting, unknown, node-image, record-image, imageOf, node-of, nodeAt, dummy-node, left-link, right-link}
 use Rattle.laws.specs.Words.{image-length}
 use Rattle.records.specs.Words.{field-at}
 use Rattle.records.specs.Carries.{Stores, size, is-join, is-halved}
@@ -88,6 +89,46 @@ join-parts (join half l r) e = refl
 join-parts (leaf x) e = absurd (false≢true e)
 join-parts dummy e = absurd (false≢true e)
 
+-- an output, a waiting entry and a leaf by their words
+output-words : (r : Record) → getD (record-image r) 0 0 ≡ 4 →
+    (o : Output) × (r ≡ output o) × (getD (record-image r) 1 0 ≡ o .node) × (getD (record-image r) 2 0 ≡ o .value) ×
+    (getD (record-image r) 3 0 ≡ literal-word (pos (o .number)))
+unfolding record-image node-image
+output-words (node n) = go (n .kind) (n .maximum) (n .height)
+  where
+    go : {A : Type 0} (k : Kind) (m h : ℕ) → getD (node-image k m h) 0 0 ≡ 4 → A
+    go (leaf x) m h e = absurd (omega arith)
+    go (join half l r) m h e = absurd (omega arith)
+    go dummy m h e = absurd (omega arith)
+output-words (output o) = λ e. (o, refl, refl, refl, refl)
+output-words (waiting w) = λ e. absurd (omega arith)
+output-words unknown = λ e. absurd (omega arith)
+
+waiting-words : (r : Record) → getD (record-image r) 0 0 ≡ 5 →
+    (w : Entry) × (r ≡ waiting w) × (getD (record-image r) 1 0 ≡ w .node) × (getD (record-image r) 2 0 ≡ w .weight)
+unfolding record-image node-image
+waiting-words (node n) = go (n .kind) (n .maximum) (n .height)
+  where
+    go : {A : Type 0} (k : Kind) (m h : ℕ) → getD (node-image k m h) 0 0 ≡ 5 → A
+    go (leaf x) m h e = absurd (omega arith)
+    go (join half l r) m h e = absurd (omega arith)
+    go dummy m h e = absurd (omega arith)
+waiting-words (output o) = λ e. absurd (omega arith)
+waiting-words (waiting w) = λ e. (w, refl, refl, refl)
+waiting-words unknown = λ e. absurd (omega arith)
+
+leaf-words : (r : Record) → getD (record-image r) 0 0 ≡ 1 → (x : ℤ) × (node-of r .kind ≡ leaf x) × (getD (record-image r) 1 0 ≡ literal-word x)
+unfolding record-image node-image node-of
+leaf-words (node n) = go (n .kind) (n .maximum) (n .height)
+  where
+    go : (k : Kind) (m h : ℕ) → getD (node-image k m h) 0 0 ≡ 1 → (x : ℤ) × (k ≡ leaf x) × (getD (node-image k m h) 1 0 ≡ literal-word x)
+    go (leaf x) m h e = (x, refl, refl)
+    go (join half l r) m h e = absurd (omega arith)
+    go dummy m h e = absurd (omega arith)
+leaf-words (output o) = λ e. absurd (omega arith)
+leaf-words (waiting w) = λ e. absurd (omega arith)
+leaf-words unknown = λ e. absurd (omega arith)
+
 -- the words s store rs
 module _ (s : List ℕ) (records : ℕ) (rs : List Record) (h : Stores s records rs) where
   within : 8 * records ≤ length s
@@ -125,6 +166,29 @@ module _ (s : List ℕ) (records : ℕ) (rs : List Record) (h : Stores s records
   pub height-is : (n : ℕ) → field-at s records n 5 ≡ nodeAt rs n .height
   unfolding nodeAt
   height-is n = field-is n 5 (omega arith) ∙ height-word (getD rs n unknown)
+
+  -- record n is an output, and its fields say of which node, which value, and which number
+  pub output-is : (n : ℕ) → field-at s records n 0 ≡ 4 →
+      (o : Output) × (getD rs n unknown ≡ output o) × (field-at s records n 1 ≡ o .node) × (field-at s records n 2 ≡ o .value) ×
+      (field-at s records n 3 ≡ literal-word (pos (o .number)))
+  output-is n e =
+      let r : Record = getD rs n unknown in
+      let w = output-words r (sym (field-is n 0 (omega arith)) ∙ e) in
+      (w .0, w .1, field-is n 1 (omega arith) ∙ w .2, field-is n 2 (omega arith) ∙ w .3, field-is n 3 (omega arith) ∙ w .4)
+
+  -- record n is a waiting entry, and its fields say which node and weight
+  pub waiting-is : (n : ℕ) → field-at s records n 0 ≡ 5 →
+      (w : Entry) × (getD rs n unknown ≡ waiting w) × (field-at s records n 1 ≡ w .node) × (field-at s records n 2 ≡ w .weight)
+  waiting-is n e =
+      let w = waiting-words (getD rs n unknown) (sym (field-is n 0 (omega arith)) ∙ e) in
+      (w .0, w .1, field-is n 1 (omega arith) ∙ w .2, field-is n 2 (omega arith) ∙ w .3)
+
+  -- node n is a leaf, and its field says the literal
+  pub leaf-is : (n : ℕ) → field-at s records n 0 ≡ 1 → (x : ℤ) × (nodeAt rs n .kind ≡ leaf x) × (field-at s records n 1 ≡ literal-word x)
+  unfolding nodeAt
+  leaf-is n e =
+      let w = leaf-words (getD rs n unknown) (sym (field-is n 0 (omega arith)) ∙ e) in
+      (w .0, w .1, field-is n 1 (omega arith) ∙ w .2)
 
   module _ (n x : ℕ) (ex : x ≡ field-at s records n 0) where
     kind-is : x ≡ getD (record-image (getD rs n unknown)) 0 0

@@ -1,2 +1,3 @@
 -- The laws of appending a record.
 pub mod Appending
+pub mod Determined

@@ -4,6 +4,7 @@ use mathlib.Core.Bool.{Bool, true, false, cond, false≢true}
 use mathlib.Core.List.{List, [], _∷_, _++_}
 use Prim.Native.Nat.{ℕ, zero, suc, _+_, _*_, _/_, _-_, _≤_, _<_, min}
 use native.Mathlib.Omega.{arith}
+use lib.Dec.{ltb}
 use lib.IntN.{ℤ, pos}
 use Rattle.rules.specs.Lists.{in-turn, keep, rising}
 use Rattle.rules.specs.Records.{Kind, leaf, join, dummy, Output, Record, nodeAt, left-link, right-link, literal-word, word-literal}
@@ -16,6 +17,7 @@ use Rattle.records.specs.Carries.{St, st, storeOf, marksOf, Fits, Holds, Carrie
 use Rattle.records.proofs.Grow.{clause-grows}
 use Rattle.records.proofs.Read.{join-parts}
 use Rattle.records.proofs.Step.{steps-none, steps-then, steps-same, stop, going, filled, held-stores, Rest, rest-turn}
+use Rattle.totalizer.specs.Spread.{Spread}
 use Rattle.totalizer.proofs.Growth.{define-grows, output-grows, extend-grows, finish-grows}
 use Rattle.totalizer.proofs.Pairs.{further, write-turn, pairs-turn, rising-turn}
 
@@ -191,15 +193,13 @@ module _ (s : List ℕ) (c : List ℤ) (m : Marks) (h n v : ℕ) (some : h ≡ 0
               found-kind (define (h - 1)) n v (nodeAt (t .records) n .kind) t (zero-number y (number-of (t .records) n v) (ey (t .records) at) nay)),
         ))
 
-    module _ (yes : x ≡ true) (none : y ≡ 0) (half : Bool) (l r top right bottom lo high many : ℕ)
+    module _ (yes : x ≡ true) (none : y ≡ 0) (half : Bool) (l r lo many : ℕ)
         (eh : (rs : List Record) → Stores s (m .records) rs → half ≡ is-halved (nodeAt rs n .kind))
         (el : (rs : List Record) → Stores s (m .records) rs → l ≡ left-link (nodeAt rs n .kind))
-        (er : (rs : List Record) → Stores s (m .records) rs → r ≡ right-link (nodeAt rs n .kind))
-        (et : (rs : List Record) → Stores s (m .records) rs → top ≡ nodeAt rs r .maximum) (ec : right ≡ counts half top) (elo : lo ≡ v - right)
-        (eb : (rs : List Record) → Stores s (m .records) rs → bottom ≡ nodeAt rs l .maximum) (ehi : high ≡ min v bottom) (em : many ≡ suc high - lo) where
-      pub def-done : (τ υ : St) → Steps (st s c m) τ (λ t. in-turn (ask-pair (define (h - 1)) half l r) t (pairs-from many lo v)) →
-          Steps τ υ (λ t. take-number n v (write half l r (t .fresh) (pairs-from many lo v) t)) → Steps (st s c m) υ (λ t. define h t n v)
-      unfolding pairs
+        (er : (rs : List Record) → Stores s (m .records) rs → r ≡ right-link (nodeAt rs n .kind)) (es : Spread s (m .records) half l r v lo many) where
+      pub def-done : (τ υ : St) → (asks half (v - lo) < 4294967296 → Steps (st s c m) τ (λ t. in-turn (ask-pair (define (h - 1)) half l r) t (pairs-from many lo v))) →
+          (asks half (v - lo) < 4294967296 → Steps τ υ (λ t. take-number n v (write half l r (t .fresh) (pairs-from many lo v) t))) →
+          Steps (st s c m) υ (λ t. define h t n v)
       def-done τ υ p q =
           held s c m υ (λ t. define h t n v) k (λ t at e.
           let d : Define = define (h - 1) in
@@ -207,13 +207,11 @@ module _ (s : List ℕ) (c : List ℤ) (m : Marks) (h n v : ℕ) (some : h ≡ 0
           let kind : nodeAt (t .records) n .kind ≡ join half l r
           = join-parts (nodeAt (t .records) n .kind) (sym (ex (t .records) at) ∙ yes) ∙
           (ap₂ (λ (y : Bool) (z : ℕ). join y z (right-link (nodeAt (t .records) n .kind))) (sym (eh (t .records) at)) (sym (el (t .records) at)) ∙
-          ap (join half l) (sym (er (t .records) at))) in
-          let pairs-are : ps ≡ pairs (nodeAt (t .records) l .maximum) (counts half (nodeAt (t .records) r .maximum)) v
-          = rw (em, ehi, elo, ec, et (t .records) at, eb (t .records) at) refl in (
+          ap (join half l) (sym (er (t .records) at))) in (
             (λ u. take-number n v (write half l r (in-turn (ask-pair d half l r) u ps .fresh) ps (in-turn (ask-pair d half l r) u ps))),
-            steps-then (st s c m) τ υ (λ u. in-turn (ask-pair d half l r) u ps) (λ u. take-number n v (write half l r (u .fresh) ps u)) p q,
-            join-kind d n v (nodeAt (t .records) n .kind) t half l r ps kind (number-zero y (number-of (t .records) n v) (ey (t .records) at) none) pairs-are ∙
-                sym (def-suc h t n v some),
+            steps-then (st s c m) τ υ (λ u. in-turn (ask-pair d half l r) u ps) (λ u. take-number n v (write half l r (u .fresh) ps u)) (p (es .askable)) (q (es .askable)),
+            join-kind d n v (nodeAt (t .records) n .kind) t half l r ps kind (number-zero y (number-of (t .records) n v) (ey (t .records) at) none)
+                (es .pairs-are (t .records) at) ∙ sym (def-suc h t n v some),
           ))
 
 -- with the node's own height
@@ -237,29 +235,27 @@ outputs-turn σ₀ σ τ f n k v i p =
 pub extend-stop : (σ : St) (n most : ℕ) (o : Output) → marksOf σ .full ≡ true → Steps σ σ (λ t. extend n most t o)
 extend-stop σ n most o k = stop σ (λ t. extend n most t o) (extend-grows n most o) k
 
-module _ (s : List ℕ) (c : List ℤ) (m : Marks) (n most v : ℕ) (o : Output) (k : m .full ≡ false) (ev : v ≡ o .value) (l r top bottom lo high all above fewer many h : ℕ)
+module _ (s : List ℕ) (c : List ℤ) (m : Marks) (n most v : ℕ) (o : Output) (k : m .full ≡ false) (ev : v ≡ o .value) (l r lo all above fewer many h : ℕ)
     (el : (rs : List Record) → Stores s (m .records) rs → l ≡ left-link (nodeAt rs n .kind))
-    (er : (rs : List Record) → Stores s (m .records) rs → r ≡ right-link (nodeAt rs n .kind))
-    (et : (rs : List Record) → Stores s (m .records) rs → top ≡ nodeAt rs r .maximum) (elo : lo ≡ v - top / 2)
-    (eb : (rs : List Record) → Stores s (m .records) rs → bottom ≡ nodeAt rs l .maximum) (ehi : high ≡ min v bottom) (ea : all ≡ suc high - lo)
+    (er : (rs : List Record) → Stores s (m .records) rs → r ≡ right-link (nodeAt rs n .kind)) (es : Spread s (m .records) true l r v lo all)
     (ew : above ≡ v - most) (ef : fewer ≡ above - lo) (em : many ≡ min all fewer) (eh : (rs : List Record) → Stores s (m .records) rs → h ≡ nodeAt rs n .height) where
-  pub extend-done : (τ υ : St) → Steps (st s c m) τ (λ t. in-turn (ask-pair (define h) true l r) t (pairs-from many lo v)) →
-      Steps τ υ (write true l r (o .number) (pairs-from many lo v)) → Steps (st s c m) υ (λ t. extend n most t o)
-  unfolding extend further-pairs pairs counts
+  -- the pairs whose b exceeds the bound
+  few : (rs : List Record) → Stores s (m .records) rs → pairs-from many lo v ≡ further-pairs rs n most (o .value)
+  unfolding further-pairs
+  few rs at =
+      let first : pairs-from many lo v ≡ keep (λ p. ltb most (p .1)) (pairs-from all lo v) = rw (em, ef, ew) (sym (further most all lo v)) in
+      first ∙ (ap (keep (λ p. ltb most (p .1))) (es .pairs-are rs at) ∙
+      rw (el rs at, er rs at, ev) refl)
+
+  pub extend-done : (τ υ : St) → (asks true (v - lo) < 4294967296 → Steps (st s c m) τ (λ t. in-turn (ask-pair (define h) true l r) t (pairs-from many lo v))) →
+      (asks true (v - lo) < 4294967296 → Steps τ υ (write true l r (o .number) (pairs-from many lo v))) → Steps (st s c m) υ (λ t. extend n most t o)
+  unfolding extend
   extend-done τ υ p q =
       held s c m υ (λ t. extend n most t o) k (λ t at e.
-      let ps : List (ℕ × ℕ) = pairs-from many lo v in
-      let a : bottom ≡ nodeAt (t .records) (left-link (nodeAt (t .records) n .kind)) .maximum
-      = eb (t .records) at ∙ ap (λ (i : ℕ). nodeAt (t .records) i .maximum) (el (t .records) at) in
-      let b : top ≡ nodeAt (t .records) (right-link (nodeAt (t .records) n .kind)) .maximum
-      = et (t .records) at ∙ ap (λ (i : ℕ). nodeAt (t .records) i .maximum) (er (t .records) at) in
-      let few : further-pairs (t .records) n most (o .value) ≡ ps = sym (rw (em, ef, ew, ea, ehi, elo, a, b, ev) (sym (further most
-      (suc (min (o .value) (nodeAt (t .records) (left-link (nodeAt (t .records) n .kind)) .maximum)) -
-      (o .value - nodeAt (t .records) (right-link (nodeAt (t .records) n .kind)) .maximum / 2))
-      (o .value - nodeAt (t .records) (right-link (nodeAt (t .records) n .kind)) .maximum / 2) (o .value)))) in (
+      let ps : List (ℕ × ℕ) = pairs-from many lo v in (
         (λ u. write true l r (o .number) ps (in-turn (ask-pair (define h) true l r) u ps)),
-        steps-then (st s c m) τ υ (λ u. in-turn (ask-pair (define h) true l r) u ps) (write true l r (o .number) ps) p q,
-        same t (el (t .records) at) (er (t .records) at) (eh (t .records) at) (sym few),
+        steps-then (st s c m) τ υ (λ u. in-turn (ask-pair (define h) true l r) u ps) (write true l r (o .number) ps) (p (es .askable)) (q (es .askable)),
+        same t (el (t .records) at) (er (t .records) at) (eh (t .records) at) (few (t .records) at),
       ))
     where
       same : (t : Arena) → l ≡ left-link (nodeAt (t .records) n .kind) → r ≡ right-link (nodeAt (t .records) n .kind) → h ≡ nodeAt (t .records) n .height →

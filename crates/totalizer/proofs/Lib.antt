@@ -2,3 +2,4 @@
 pub mod Growth
 pub mod Pairs
 pub mod Defining
+pub mod Determined

@@ -8,14 +8,12 @@ use lib.Dec.{ltb}
 use lib.IntN.{ℤ}
 use borrow.Author.Tests.{ltb-true, ltb-false}
 use Rattle.rules.specs.Lists.{in-turn, keep, rising}
-use Rattle.rules.specs.Records.{Record}
+use Rattle.rules.specs.Records.{Record, nodeAt}
 use Rattle.rules.specs.Totalizer.{Arena, counts, asks, pairs-from, pairs, clause, write, Define, ask, ask-pair}
-use Rattle.records.specs.Carries.{with-clause}
+use Rattle.records.specs.Carries.{Stores, with-clause}
+use Rattle.totalizer.specs.Spread.{Spread}
 
--- all pairs from lo on lie within v
-pub span-within : (v left right lo high many : ℕ) → lo ≡ v - right → high ≡ min v left → many ≡ suc high - lo → lo + many ≤ v + 1
-span-within v left right lo high many e f g = omega arith
-
+-- fewer pairs lie within v too
 pub span-fewer : (v lo all most many : ℕ) → lo + all ≤ v + 1 → many ≡ min all most → lo + many ≤ v + 1
 span-fewer v lo all most many h e = omega arith
 
@@ -29,10 +27,22 @@ pub asks-later : (half : Bool) (v lo a : ℕ) → lo ≤ a → asks half (v - lo
 asks-later half v lo a i j = asks-under half (v - a) (v - lo) (omega arith) j
 
 -- b is at most what the right maximum counts for, so the value that it asks fits
-pub asks-first : (half : Bool) (v top right lo : ℕ) → top < 4294967296 → right ≡ counts half top → lo ≡ v - right → asks half (v - lo) < 4294967296
+asks-first : (half : Bool) (v top right lo : ℕ) → top < 4294967296 → right ≡ counts half top → lo ≡ v - right → asks half (v - lo) < 4294967296
 unfolding asks counts
 asks-first true v top right lo i e f = omega arith
 asks-first false v top right lo i e f = omega arith
+
+-- the pairs, from the maxima of both sides
+pub spread-is : (s : List ℕ) (records : ℕ) (half : Bool) (l r v top right left lo high many : ℕ) → top < 4294967296 →
+    ((rs : List Record) → Stores s records rs → top ≡ nodeAt rs r .maximum) → right ≡ counts half top →
+    ((rs : List Record) → Stores s records rs → left ≡ nodeAt rs l .maximum) → lo ≡ v - right → high ≡ min v left → many ≡ suc high - lo →
+    Spread s records half l r v lo many
+unfolding pairs
+spread-is s records half l r v top right left lo high many i et er el elo ehi em = record {
+  pairs-are = λ rs h. rw (em, ehi, elo, er, et rs h, el rs h) refl;
+  within = omega arith;
+  askable = asks-first half v top right lo i er elo;
+}
 
 pub asks-whole : (a : ℕ) → a < 4294967296 → asks false a < 4294967296
 unfolding asks
@@ -104,11 +114,3 @@ pub rising-end : (f : Arena → ℕ → Arena) (k v : ℕ) → k ≤ 0 → (t : 
 unfolding in-turn rising
 rising-end f zero v i t = refl
 rising-end f (suc k) v i t = absurd (omega arith)
-
--- the same through a halving
-pub asks-extended : (v top lo : ℕ) → top < 4294967296 → lo ≡ v - top / 2 → asks true (v - lo) < 4294967296
-unfolding counts
-asks-extended v top lo i e = asks-first true v top (top / 2) lo i (halves top) e
-  where
-    halves : (top : ℕ) → top / 2 ≡ counts true top
-    halves top = refl

@@ -1,1 +1,2 @@
--- The promises of the totalizer cite the rules and the relation of records alone.
+-- What the steps of defining cite beside the rules and the relation of records.
+pub mod Spread

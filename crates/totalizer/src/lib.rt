@@ -9,6 +9,7 @@ ghost use Rattle.rules.specs.Records.{Output, literal-word};
 ghost use Rattle.rules.specs.Totalizer.{asks, ask, ask-pair, pairs-from, clause, write, take-number, define, define-output};
 ghost use Rattle.rules.specs.Refinement.{extend};
 ghost use Rattle.records.specs.Carries.{st, Steps, with-clause};
+ghost use Rattle.totalizer.specs.Spread.{Spread};
 use records::Marks;
 
 // Output v less x, not below 0.
@@ -47,6 +48,25 @@ fn at_most(x: usize, y: u32) -> usize
         return x;
     }
     y as usize
+}
+
+// Pairs that add to a value: the first a, and how many.
+struct Range {
+    lo: u32,
+    many: usize,
+}
+
+// The pairs that add to v within the maxima of two sides, the right one halved or not.
+fn spread(s: &[u32], records: usize, half: bool, l: u32, r: u32, v: u32) -> Range
+    ensures { λ x. ⌜ Spread (now (s .entry)) records half l r v (x .lo) (x .many) ⌝ }
+{
+    let right = records_append::counted(half, records::maximum(s, records, r));
+    let left = records::maximum(s, records, l);
+    let lo = less(v, right);
+    Range {
+        lo,
+        many: span(lower(v, left), lo),
+    }
 }
 
 // The value that a count b asks of its node, where it fits a word.
@@ -159,11 +179,9 @@ fn define_by(s: &mut [u32], c: &mut [i32], m: Marks, node: u32, v: u32, height: 
     let half = records::halved(s, n, node);
     let l = records::left(s, n, node);
     let r = records::right(s, n, node);
-    let right = records_append::counted(half, records::maximum(s, n, r));
-    let lo = less(v, right);
-    let many = span(lower(v, records::maximum(s, n, l)), lo);
-    let k = ask_pairs(s, c, m, half, l, r, v, lo, many, height - 1);
-    finish(s, c, k, node, v, half, l, r, lo, many)
+    let x = spread(s, n, half, l, r, v);
+    let k = ask_pairs(s, c, m, half, l, r, v, x.lo, x.many, height - 1);
+    finish(s, c, k, node, v, half, l, r, x.lo, x.many)
 }
 
 // What the pairs from lo on use, a rising, left before right.
@@ -187,8 +205,9 @@ fn ask_pairs(
     let mut k = many;
     while 0 < k {
         let x = a as u32;
+        let y = v - x;
         n = resolve(s, c, n, false, l, x, height);
-        n = resolve(s, c, n, half, r, v - x, height);
+        n = resolve(s, c, n, half, r, y, height);
         a += 1;
         k -= 1;
     }
@@ -261,10 +280,9 @@ pub fn extend(s: &mut [u32], c: &mut [i32], m: Marks, node: u32, most: u32, v: u
     let n = m.records;
     let l = records::left(s, n, node);
     let r = records::right(s, n, node);
-    let lo = less(v, records::maximum(s, n, r) / 2);
-    let all = span(lower(v, records::maximum(s, n, l)), lo);
-    let many = at_most(all, less(less(v, most), lo));
+    let x = spread(s, n, true, l, r, v);
+    let many = at_most(x.many, less(less(v, most), x.lo));
     let height = records::height(s, n, node);
-    let k = ask_pairs(s, c, m, true, l, r, v, lo, many, height);
-    write(s, c, k, true, l, r, v, lo, many, o)
+    let k = ask_pairs(s, c, m, true, l, r, v, x.lo, many, height);
+    write(s, c, k, true, l, r, v, x.lo, many, o)
 }

@@ -1,2 +1,3 @@
 -- The laws of finding.
 pub mod Walk
+pub mod Determined

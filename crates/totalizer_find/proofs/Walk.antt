@@ -8,10 +8,11 @@ use lib.Dec.{eqb}
 use lib.ListN.{length, getD, drop, drop-of-length-le}
 use lib.Seq.{drop-cons}
 use lib.IntN.{ℤ, pos, negsuc, negℤ}
-use borrow.Author.Tests.{eq-eqb, ne-eqb}
+use borrow.Author.Tests.{eq-eqb, ne-eqb, eqb-true, eqb-false}
 use Rattle.rules.specs.Records.{Kind, leaf, join, dummy, Record, node, output, waiting, unknown, node-of, nodeAt, node-image, record-image, literal-word, word-literal, outputs}
 use Rattle.rules.specs.Totalizer.{number-in, number-of, literal-of, side}
 use Rattle.laws.specs.Words.{literal-word-literal}
+use Rattle.numbers.proofs.Literals.{word-literal-word}
 use Rattle.records.specs.Words.{field-at, side-of}
 use Rattle.records.specs.Carries.{Stores}
 use Rattle.records.proofs.Read.{field-is}
@@ -177,3 +178,19 @@ side-some rs n (suc v) w x h e f =
     = f ∙ ap (λ (z : ℤ). literal-word (negℤ z)) (ap word-literal e ∙ literal-word-literal (literal-of (nodeAt rs n .kind) (number-of rs n (suc v)))) in
     ap (λ (b : Bool). cond b [] (word-literal x ∷ [])) (ne-eqb x 1 (λ q. word-not-one y (sym is ∙ q))) ∙
     ap (λ (z : ℤ). z ∷ []) (ap word-literal is ∙ literal-word-literal y)
+
+-- what a side adds tells its word
+pub side-injective : (x y : ℕ) → side-of x ≡ side-of y → x ≡ y
+unfolding side-of
+side-injective x y = go (eqb x 1) refl (eqb y 1) refl
+  where
+    first : List ℤ → ℤ
+    first [] = pos 0
+    first (z ∷ zs) = z
+
+    go : (b : Bool) → eqb x 1 ≡ b → (c : Bool) → eqb y 1 ≡ c → cond b [] (word-literal x ∷ []) ≡ cond c [] (word-literal y ∷ []) → x ≡ y
+    go true p true q e = eqb-true x 1 p ∙ sym (eqb-true y 1 q)
+    go true p false q e = let z : _≡_ {A = ℕ} 0 1 = ap length e in absurd (omega arith)
+    go false p true q e = let z : _≡_ {A = ℕ} 1 0 = ap length e in absurd (omega arith)
+    go false p false q e =
+        sym (word-literal-word x (eqb-false x 1 p)) ∙ (ap (λ (z : List ℤ). literal-word (first z)) e ∙ word-literal-word y (eqb-false y 1 q))

@@ -9,7 +9,7 @@ use Rattle.rules.specs.Lists.{in-turn}
 use Rattle.rules.specs.Totalizer.{asks, ask-pair, define, pairs-from}
 use Rattle.records.specs.Carries.{st}
 use Rattle.records.proofs.Step.{Rest, rest-start, rest-end}
-use Rattle.totalizer.proofs.Pairs.{span-within, asks-later, asks-first, asks-whole, pairs-end}
+use Rattle.totalizer.proofs.Pairs.{asks-later, asks-whole, pairs-end}
 use Rattle.totalizer.proofs.Defining.{ask-none, ask-some, asks-turn, def-zero, def-stop, def-other, def-found, def-done}
 use Prim.Native.Nat.{ℕ, _<_}
 use borrow.Fn.Kinds.{In}
@@ -26,13 +26,9 @@ use Rattle.totalizer.proofs.+ask_pairs+define_by+resolve.Lts-resolve as
 use Rattle.records.proofs.halved.Reads as halved-reads
 use Rattle.records.proofs.joins.Reads as joins-reads
 use Rattle.records.proofs.left.Reads as left-reads
-use Rattle.records.proofs.maximum.Reads as maximum-reads
 use Rattle.records.proofs.right.Reads as right-reads
-use Rattle.records_append.proofs.counted.Reads as counted-reads
 use Rattle.totalizer.proofs.finish.Reads as finish-reads
-use Rattle.totalizer.proofs.less.Reads as less-reads
-use Rattle.totalizer.proofs.lower.Reads as lower-reads
-use Rattle.totalizer.proofs.span.Reads as span-reads
+use Rattle.totalizer.proofs.spread.Reads as spread-reads
 use Rattle.totalizer.proofs.through.Reads as through-reads
 use Rattle.totalizer_find.proofs.find.Reads as find-reads
 use Rattle.totalizer.proofs.+ask_pairs+define_by+resolve.{statement}
@@ -93,21 +89,21 @@ ask-pairs-cast-x :
     ask-pairs-μ-loop
 ask-pairs-cast-x t c = omega arith
 
-ask-pairs-resolve-requires : (t : ℕ) → ask-pairs-lts.Need-resolve-requires (
-  resolve-below t,
-  resolve.Post,
-) (ask-pairs-at t) ask-pairs.Post ask-pairs-Inv-loop ask-pairs-μ-loop
-ask-pairs-resolve-requires t c κs = omega arith
-
-ask-pairs-sub-resolve :
+ask-pairs-sub-y :
     (t : ℕ) →
-    ask-pairs-lts.Need-sub-resolve
+    ask-pairs-lts.Need-sub-y
     (resolve-below t, resolve.Post)
     (ask-pairs-at t)
     ask-pairs.Post
     ask-pairs-Inv-loop
     ask-pairs-μ-loop
-ask-pairs-sub-resolve t c = omega arith
+ask-pairs-sub-y t c = omega arith
+
+ask-pairs-resolve-requires : (t : ℕ) → ask-pairs-lts.Need-resolve-requires (
+  resolve-below t,
+  resolve.Post,
+) (ask-pairs-at t) ask-pairs.Post ask-pairs-Inv-loop ask-pairs-μ-loop
+ask-pairs-resolve-requires t c κs = omega arith
 
 ask-pairs-resolve-requires-2 : (t : ℕ) → ask-pairs-lts.Need-resolve-requires-2 (
   resolve-below t,
@@ -192,16 +188,8 @@ define-by-returns : (t : ℕ) → define-by-lts.Need-returns (
   left-reads.Learnt,
   right-reads.Asked,
   right-reads.Learnt,
-  maximum-reads.Asked,
-  maximum-reads.Learnt,
-  counted-reads.Asked,
-  counted-reads.Learnt,
-  less-reads.Asked,
-  less-reads.Learnt,
-  lower-reads.Asked,
-  lower-reads.Learnt,
-  span-reads.Asked,
-  span-reads.Learnt,
+  spread-reads.Asked,
+  spread-reads.Learnt,
   ask-pairs-below t,
   ask-pairs.Post,
   finish-reads.Asked,
@@ -220,16 +208,8 @@ define-by-returns-2 : (t : ℕ) → define-by-lts.Need-returns-2 (
   left-reads.Learnt,
   right-reads.Asked,
   right-reads.Learnt,
-  maximum-reads.Asked,
-  maximum-reads.Learnt,
-  counted-reads.Asked,
-  counted-reads.Learnt,
-  less-reads.Asked,
-  less-reads.Learnt,
-  lower-reads.Asked,
-  lower-reads.Learnt,
-  span-reads.Asked,
-  span-reads.Learnt,
+  spread-reads.Asked,
+  spread-reads.Learnt,
   ask-pairs-below t,
   ask-pairs.Post,
   finish-reads.Asked,
@@ -248,16 +228,8 @@ define-by-joins-requires : (t : ℕ) → define-by-lts.Need-joins-requires (
   left-reads.Learnt,
   right-reads.Asked,
   right-reads.Learnt,
-  maximum-reads.Asked,
-  maximum-reads.Learnt,
-  counted-reads.Asked,
-  counted-reads.Learnt,
-  less-reads.Asked,
-  less-reads.Learnt,
-  lower-reads.Asked,
-  lower-reads.Learnt,
-  span-reads.Asked,
-  span-reads.Learnt,
+  spread-reads.Asked,
+  spread-reads.Learnt,
   ask-pairs-below t,
   ask-pairs.Post,
   finish-reads.Asked,
@@ -276,16 +248,8 @@ define-by-same-length : (t : ℕ) → define-by-lts.Need-same-length (
   left-reads.Learnt,
   right-reads.Asked,
   right-reads.Learnt,
-  maximum-reads.Asked,
-  maximum-reads.Learnt,
-  counted-reads.Asked,
-  counted-reads.Learnt,
-  less-reads.Asked,
-  less-reads.Learnt,
-  lower-reads.Asked,
-  lower-reads.Learnt,
-  span-reads.Asked,
-  span-reads.Learnt,
+  spread-reads.Asked,
+  spread-reads.Learnt,
   ask-pairs-below t,
   ask-pairs.Post,
   finish-reads.Asked,
@@ -304,16 +268,8 @@ define-by-returns-3 : (t : ℕ) → define-by-lts.Need-returns-3 (
   left-reads.Learnt,
   right-reads.Asked,
   right-reads.Learnt,
-  maximum-reads.Asked,
-  maximum-reads.Learnt,
-  counted-reads.Asked,
-  counted-reads.Learnt,
-  less-reads.Asked,
-  less-reads.Learnt,
-  lower-reads.Asked,
-  lower-reads.Learnt,
-  span-reads.Asked,
-  span-reads.Learnt,
+  spread-reads.Asked,
+  spread-reads.Learnt,
   ask-pairs-below t,
   ask-pairs.Post,
   finish-reads.Asked,
@@ -332,16 +288,8 @@ define-by-find-requires : (t : ℕ) → define-by-lts.Need-find-requires (
   left-reads.Learnt,
   right-reads.Asked,
   right-reads.Learnt,
-  maximum-reads.Asked,
-  maximum-reads.Learnt,
-  counted-reads.Asked,
-  counted-reads.Learnt,
-  less-reads.Asked,
-  less-reads.Learnt,
-  lower-reads.Asked,
-  lower-reads.Learnt,
-  span-reads.Asked,
-  span-reads.Learnt,
+  spread-reads.Asked,
+  spread-reads.Learnt,
   ask-pairs-below t,
   ask-pairs.Post,
   finish-reads.Asked,
@@ -360,16 +308,8 @@ define-by-same-length-2 : (t : ℕ) → define-by-lts.Need-same-length-2 (
   left-reads.Learnt,
   right-reads.Asked,
   right-reads.Learnt,
-  maximum-reads.Asked,
-  maximum-reads.Learnt,
-  counted-reads.Asked,
-  counted-reads.Learnt,
-  less-reads.Asked,
-  less-reads.Learnt,
-  lower-reads.Asked,
-  lower-reads.Learnt,
-  span-reads.Asked,
-  span-reads.Learnt,
+  spread-reads.Asked,
+  spread-reads.Learnt,
   ask-pairs-below t,
   ask-pairs.Post,
   finish-reads.Asked,
@@ -388,16 +328,8 @@ define-by-returns-4 : (t : ℕ) → define-by-lts.Need-returns-4 (
   left-reads.Learnt,
   right-reads.Asked,
   right-reads.Learnt,
-  maximum-reads.Asked,
-  maximum-reads.Learnt,
-  counted-reads.Asked,
-  counted-reads.Learnt,
-  less-reads.Asked,
-  less-reads.Learnt,
-  lower-reads.Asked,
-  lower-reads.Learnt,
-  span-reads.Asked,
-  span-reads.Learnt,
+  spread-reads.Asked,
+  spread-reads.Learnt,
   ask-pairs-below t,
   ask-pairs.Post,
   finish-reads.Asked,
@@ -416,16 +348,8 @@ define-by-halved-requires : (t : ℕ) → define-by-lts.Need-halved-requires (
   left-reads.Learnt,
   right-reads.Asked,
   right-reads.Learnt,
-  maximum-reads.Asked,
-  maximum-reads.Learnt,
-  counted-reads.Asked,
-  counted-reads.Learnt,
-  less-reads.Asked,
-  less-reads.Learnt,
-  lower-reads.Asked,
-  lower-reads.Learnt,
-  span-reads.Asked,
-  span-reads.Learnt,
+  spread-reads.Asked,
+  spread-reads.Learnt,
   ask-pairs-below t,
   ask-pairs.Post,
   finish-reads.Asked,
@@ -444,16 +368,8 @@ define-by-left-requires : (t : ℕ) → define-by-lts.Need-left-requires (
   left-reads.Learnt,
   right-reads.Asked,
   right-reads.Learnt,
-  maximum-reads.Asked,
-  maximum-reads.Learnt,
-  counted-reads.Asked,
-  counted-reads.Learnt,
-  less-reads.Asked,
-  less-reads.Learnt,
-  lower-reads.Asked,
-  lower-reads.Learnt,
-  span-reads.Asked,
-  span-reads.Learnt,
+  spread-reads.Asked,
+  spread-reads.Learnt,
   ask-pairs-below t,
   ask-pairs.Post,
   finish-reads.Asked,
@@ -472,16 +388,8 @@ define-by-right-requires : (t : ℕ) → define-by-lts.Need-right-requires (
   left-reads.Learnt,
   right-reads.Asked,
   right-reads.Learnt,
-  maximum-reads.Asked,
-  maximum-reads.Learnt,
-  counted-reads.Asked,
-  counted-reads.Learnt,
-  less-reads.Asked,
-  less-reads.Learnt,
-  lower-reads.Asked,
-  lower-reads.Learnt,
-  span-reads.Asked,
-  span-reads.Learnt,
+  spread-reads.Asked,
+  spread-reads.Learnt,
   ask-pairs-below t,
   ask-pairs.Post,
   finish-reads.Asked,
@@ -489,7 +397,7 @@ define-by-right-requires : (t : ℕ) → define-by-lts.Need-right-requires (
 ) (define-by-at t) define-by.Post
 define-by-right-requires t c κs = search needs
 
-define-by-maximum-requires : (t : ℕ) → define-by-lts.Need-maximum-requires (
+define-by-spread-requires : (t : ℕ) → define-by-lts.Need-spread-requires (
   joins-reads.Asked,
   joins-reads.Learnt,
   find-reads.Asked,
@@ -500,162 +408,14 @@ define-by-maximum-requires : (t : ℕ) → define-by-lts.Need-maximum-requires (
   left-reads.Learnt,
   right-reads.Asked,
   right-reads.Learnt,
-  maximum-reads.Asked,
-  maximum-reads.Learnt,
-  counted-reads.Asked,
-  counted-reads.Learnt,
-  less-reads.Asked,
-  less-reads.Learnt,
-  lower-reads.Asked,
-  lower-reads.Learnt,
-  span-reads.Asked,
-  span-reads.Learnt,
+  spread-reads.Asked,
+  spread-reads.Learnt,
   ask-pairs-below t,
   ask-pairs.Post,
   finish-reads.Asked,
   finish-reads.Learnt,
 ) (define-by-at t) define-by.Post
-define-by-maximum-requires t c κs = search needs
-
-define-by-counted-requires : (t : ℕ) → define-by-lts.Need-counted-requires (
-  joins-reads.Asked,
-  joins-reads.Learnt,
-  find-reads.Asked,
-  find-reads.Learnt,
-  halved-reads.Asked,
-  halved-reads.Learnt,
-  left-reads.Asked,
-  left-reads.Learnt,
-  right-reads.Asked,
-  right-reads.Learnt,
-  maximum-reads.Asked,
-  maximum-reads.Learnt,
-  counted-reads.Asked,
-  counted-reads.Learnt,
-  less-reads.Asked,
-  less-reads.Learnt,
-  lower-reads.Asked,
-  lower-reads.Learnt,
-  span-reads.Asked,
-  span-reads.Learnt,
-  ask-pairs-below t,
-  ask-pairs.Post,
-  finish-reads.Asked,
-  finish-reads.Learnt,
-) (define-by-at t) define-by.Post
-define-by-counted-requires t c κs = search needs
-
-define-by-less-requires : (t : ℕ) → define-by-lts.Need-less-requires (
-  joins-reads.Asked,
-  joins-reads.Learnt,
-  find-reads.Asked,
-  find-reads.Learnt,
-  halved-reads.Asked,
-  halved-reads.Learnt,
-  left-reads.Asked,
-  left-reads.Learnt,
-  right-reads.Asked,
-  right-reads.Learnt,
-  maximum-reads.Asked,
-  maximum-reads.Learnt,
-  counted-reads.Asked,
-  counted-reads.Learnt,
-  less-reads.Asked,
-  less-reads.Learnt,
-  lower-reads.Asked,
-  lower-reads.Learnt,
-  span-reads.Asked,
-  span-reads.Learnt,
-  ask-pairs-below t,
-  ask-pairs.Post,
-  finish-reads.Asked,
-  finish-reads.Learnt,
-) (define-by-at t) define-by.Post
-define-by-less-requires t c κs = search needs
-
-define-by-maximum-requires-2 : (t : ℕ) → define-by-lts.Need-maximum-requires-2 (
-  joins-reads.Asked,
-  joins-reads.Learnt,
-  find-reads.Asked,
-  find-reads.Learnt,
-  halved-reads.Asked,
-  halved-reads.Learnt,
-  left-reads.Asked,
-  left-reads.Learnt,
-  right-reads.Asked,
-  right-reads.Learnt,
-  maximum-reads.Asked,
-  maximum-reads.Learnt,
-  counted-reads.Asked,
-  counted-reads.Learnt,
-  less-reads.Asked,
-  less-reads.Learnt,
-  lower-reads.Asked,
-  lower-reads.Learnt,
-  span-reads.Asked,
-  span-reads.Learnt,
-  ask-pairs-below t,
-  ask-pairs.Post,
-  finish-reads.Asked,
-  finish-reads.Learnt,
-) (define-by-at t) define-by.Post
-define-by-maximum-requires-2 t c κs = search needs
-
-define-by-lower-requires : (t : ℕ) → define-by-lts.Need-lower-requires (
-  joins-reads.Asked,
-  joins-reads.Learnt,
-  find-reads.Asked,
-  find-reads.Learnt,
-  halved-reads.Asked,
-  halved-reads.Learnt,
-  left-reads.Asked,
-  left-reads.Learnt,
-  right-reads.Asked,
-  right-reads.Learnt,
-  maximum-reads.Asked,
-  maximum-reads.Learnt,
-  counted-reads.Asked,
-  counted-reads.Learnt,
-  less-reads.Asked,
-  less-reads.Learnt,
-  lower-reads.Asked,
-  lower-reads.Learnt,
-  span-reads.Asked,
-  span-reads.Learnt,
-  ask-pairs-below t,
-  ask-pairs.Post,
-  finish-reads.Asked,
-  finish-reads.Learnt,
-) (define-by-at t) define-by.Post
-define-by-lower-requires t c κs = search needs
-
-define-by-span-requires : (t : ℕ) → define-by-lts.Need-span-requires (
-  joins-reads.Asked,
-  joins-reads.Learnt,
-  find-reads.Asked,
-  find-reads.Learnt,
-  halved-reads.Asked,
-  halved-reads.Learnt,
-  left-reads.Asked,
-  left-reads.Learnt,
-  right-reads.Asked,
-  right-reads.Learnt,
-  maximum-reads.Asked,
-  maximum-reads.Learnt,
-  counted-reads.Asked,
-  counted-reads.Learnt,
-  less-reads.Asked,
-  less-reads.Learnt,
-  lower-reads.Asked,
-  lower-reads.Learnt,
-  span-reads.Asked,
-  span-reads.Learnt,
-  ask-pairs-below t,
-  ask-pairs.Post,
-  finish-reads.Asked,
-  finish-reads.Learnt,
-) (define-by-at t) define-by.Post
-define-by-span-requires t c κs = search needs
+define-by-spread-requires t c κs = search needs
 
 define-by-sub-ask-pairs : (t : ℕ) → define-by-lts.Need-sub-ask-pairs (
   joins-reads.Asked,
@@ -668,16 +428,8 @@ define-by-sub-ask-pairs : (t : ℕ) → define-by-lts.Need-sub-ask-pairs (
   left-reads.Learnt,
   right-reads.Asked,
   right-reads.Learnt,
-  maximum-reads.Asked,
-  maximum-reads.Learnt,
-  counted-reads.Asked,
-  counted-reads.Learnt,
-  less-reads.Asked,
-  less-reads.Learnt,
-  lower-reads.Asked,
-  lower-reads.Learnt,
-  span-reads.Asked,
-  span-reads.Learnt,
+  spread-reads.Asked,
+  spread-reads.Learnt,
   ask-pairs-below t,
   ask-pairs.Post,
   finish-reads.Asked,
@@ -696,22 +448,14 @@ define-by-ask-pairs-requires : (t : ℕ) → define-by-lts.Need-ask-pairs-requir
   left-reads.Learnt,
   right-reads.Asked,
   right-reads.Learnt,
-  maximum-reads.Asked,
-  maximum-reads.Learnt,
-  counted-reads.Asked,
-  counted-reads.Learnt,
-  less-reads.Asked,
-  less-reads.Learnt,
-  lower-reads.Asked,
-  lower-reads.Learnt,
-  span-reads.Asked,
-  span-reads.Learnt,
+  spread-reads.Asked,
+  spread-reads.Learnt,
   ask-pairs-below t,
   ask-pairs.Post,
   finish-reads.Asked,
   finish-reads.Learnt,
 ) (define-by-at t) define-by.Post
-define-by-ask-pairs-requires t c κs = (omega (arith, c .before .before .before .before .before .before .before .before .before .before .before .before .before .before .before .before .before .before .before .before .before .before .before .if1 .left, c .before .before .before .before .before .before .before .before .before .before .before .before .before .before .before .before .before .before .before .before .before .before .before .before .before .pre), span-within _ _ _ _ _ _ (c .before .before .before .before .before .before .less .ensures) (c .before .before .before .lower .ensures) (c .before .before .span .ensures))
+define-by-ask-pairs-requires t c κs = (omega (arith, c .before .before .before .before .before .before .before .before .before .before .before .before .before .before .before .before .before .if1 .left, c .before .before .before .before .before .before .before .before .before .before .before .before .before .before .before .before .before .before .before .pre), c .before .before .spread .ensures .within)
 
 define-by-finish-requires : (t : ℕ) → define-by-lts.Need-finish-requires (
   joins-reads.Asked,
@@ -724,22 +468,14 @@ define-by-finish-requires : (t : ℕ) → define-by-lts.Need-finish-requires (
   left-reads.Learnt,
   right-reads.Asked,
   right-reads.Learnt,
-  maximum-reads.Asked,
-  maximum-reads.Learnt,
-  counted-reads.Asked,
-  counted-reads.Learnt,
-  less-reads.Asked,
-  less-reads.Learnt,
-  lower-reads.Asked,
-  lower-reads.Learnt,
-  span-reads.Asked,
-  span-reads.Learnt,
+  spread-reads.Asked,
+  spread-reads.Learnt,
   ask-pairs-below t,
   ask-pairs.Post,
   finish-reads.Asked,
   finish-reads.Learnt,
 ) (define-by-at t) define-by.Post
-define-by-finish-requires t c κs = span-within _ _ _ _ _ _ (c .before .before .before .before .before .before .before .before .before .before .before .before .less .ensures) (c .before .before .before .before .before .before .before .before .before .lower .ensures) (c .before .before .before .before .before .before .before .before .span .ensures)
+define-by-finish-requires t c κs = c .before .before .before .before .before .before .before .before .spread .ensures .within
 
 define-by-same-length-3 : (t : ℕ) → define-by-lts.Need-same-length-3 (
   joins-reads.Asked,
@@ -752,16 +488,8 @@ define-by-same-length-3 : (t : ℕ) → define-by-lts.Need-same-length-3 (
   left-reads.Learnt,
   right-reads.Asked,
   right-reads.Learnt,
-  maximum-reads.Asked,
-  maximum-reads.Learnt,
-  counted-reads.Asked,
-  counted-reads.Learnt,
-  less-reads.Asked,
-  less-reads.Learnt,
-  lower-reads.Asked,
-  lower-reads.Learnt,
-  span-reads.Asked,
-  span-reads.Learnt,
+  spread-reads.Asked,
+  spread-reads.Learnt,
   ask-pairs-below t,
   ask-pairs.Post,
   finish-reads.Asked,
@@ -780,16 +508,8 @@ define-by-same-length-4 : (t : ℕ) → define-by-lts.Need-same-length-4 (
   left-reads.Learnt,
   right-reads.Asked,
   right-reads.Learnt,
-  maximum-reads.Asked,
-  maximum-reads.Learnt,
-  counted-reads.Asked,
-  counted-reads.Learnt,
-  less-reads.Asked,
-  less-reads.Learnt,
-  lower-reads.Asked,
-  lower-reads.Learnt,
-  span-reads.Asked,
-  span-reads.Learnt,
+  spread-reads.Asked,
+  spread-reads.Learnt,
   ask-pairs-below t,
   ask-pairs.Post,
   finish-reads.Asked,
@@ -808,22 +528,14 @@ define-by-returns-5 : (t : ℕ) → define-by-lts.Need-returns-5 (
   left-reads.Learnt,
   right-reads.Asked,
   right-reads.Learnt,
-  maximum-reads.Asked,
-  maximum-reads.Learnt,
-  counted-reads.Asked,
-  counted-reads.Learnt,
-  less-reads.Asked,
-  less-reads.Learnt,
-  lower-reads.Asked,
-  lower-reads.Learnt,
-  span-reads.Asked,
-  span-reads.Learnt,
+  spread-reads.Asked,
+  spread-reads.Learnt,
   ask-pairs-below t,
   ask-pairs.Post,
   finish-reads.Asked,
   finish-reads.Learnt,
 ) (define-by-at t) define-by.Post
-define-by-returns-5 t c = let i : c .before .before .before .before .before .before .before .before .before .before .before .before .before .before .before .before .before .before .maximum .result < 4294967296 = omega (arith, c .before .before .before .before .before .before .before .before .before .before .before .before .before .before .before .before .before .before .maximum .ok) in def-done _ _ _ _ _ _ (c .before .before .before .before .before .before .before .before .before .before .before .before .before .before .before .before .before .before .before .before .before .before .before .before .before .before .before .before .before .before .before .before .before .if1 .left) (c .before .before .before .before .before .before .before .before .before .before .before .before .before .before .before .before .before .before .before .before .before .before .before .before .before .before .before .before .before .before .before .before .if2 .left) _ (c .before .before .before .before .before .before .before .before .before .before .before .before .before .before .before .before .before .before .before .before .before .before .before .before .before .before .before .before .before .before .joins .ensures) _ (c .before .before .before .before .before .before .before .before .before .before .before .before .before .before .before .before .before .before .before .before .before .before .before .before .before .before .before .find .ensures) (not-false _ (c .before .before .before .before .before .before .before .before .before .before .before .before .before .before .before .before .before .before .before .before .before .before .before .before .before .before .before .before .before .if3 .left)) (c .before .before .before .before .before .before .before .before .before .before .before .before .before .before .before .before .before .before .before .before .before .before .before .before .before .before .if4 .left) _ _ _ _ _ _ _ _ _ (c .before .before .before .before .before .before .before .before .before .before .before .before .before .before .before .before .before .before .before .before .before .before .before .before .halved .ensures) (c .before .before .before .before .before .before .before .before .before .before .before .before .before .before .before .before .before .before .before .before .before .before .left .ensures) (c .before .before .before .before .before .before .before .before .before .before .before .before .before .before .before .before .before .before .before .before .right .ensures) (c .before .before .before .before .before .before .before .before .before .before .before .before .before .before .before .before .before .before .maximum .ensures) (c .before .before .before .before .before .before .before .before .before .before .before .before .before .before .before .before .before .counted .ensures) (c .before .before .before .before .before .before .before .before .before .before .before .before .before .before .before .before .less .ensures) (c .before .before .before .before .before .before .before .before .before .before .before .before .before .before .maximum2 .ensures) (c .before .before .before .before .before .before .before .before .before .before .before .before .before .lower .ensures) (c .before .before .before .before .before .before .before .before .before .before .before .before .span .ensures) _ _ (c .before .before .before .before .before .before .before .before .before .ask-pairs .ensures (asks-first _ _ _ _ _ i (c .before .before .before .before .before .before .before .before .before .before .before .before .before .before .before .before .before .counted .ensures) (c .before .before .before .before .before .before .before .before .before .before .before .before .before .before .before .before .less .ensures))) (c .before .before .before .finish .ensures (asks-first _ _ _ _ _ i (c .before .before .before .before .before .before .before .before .before .before .before .before .before .before .before .before .before .counted .ensures) (c .before .before .before .before .before .before .before .before .before .before .before .before .before .before .before .before .less .ensures)))
+define-by-returns-5 t c = def-done _ _ _ _ _ _ (c .before .before .before .before .before .before .before .before .before .before .before .before .before .before .before .before .before .before .before .before .before .before .before .before .before .before .before .if1 .left) (c .before .before .before .before .before .before .before .before .before .before .before .before .before .before .before .before .before .before .before .before .before .before .before .before .before .before .if2 .left) _ (c .before .before .before .before .before .before .before .before .before .before .before .before .before .before .before .before .before .before .before .before .before .before .before .before .joins .ensures) _ (c .before .before .before .before .before .before .before .before .before .before .before .before .before .before .before .before .before .before .before .before .before .find .ensures) (not-false _ (c .before .before .before .before .before .before .before .before .before .before .before .before .before .before .before .before .before .before .before .before .before .before .before .if3 .left)) (c .before .before .before .before .before .before .before .before .before .before .before .before .before .before .before .before .before .before .before .before .if4 .left) _ _ _ _ _ (c .before .before .before .before .before .before .before .before .before .before .before .before .before .before .before .before .before .before .halved .ensures) (c .before .before .before .before .before .before .before .before .before .before .before .before .before .before .before .before .left .ensures) (c .before .before .before .before .before .before .before .before .before .before .before .before .before .before .right .ensures) (c .before .before .before .before .before .before .before .before .before .before .before .before .spread .ensures) _ _ (c .before .before .before .before .before .before .before .before .before .ask-pairs .ensures) (c .before .before .before .finish .ensures)
 
 resolve-through-requires : (t : ℕ) → resolve-lts.Need-through-requires (
   through-reads.Asked,
@@ -885,8 +597,8 @@ pub +ask-pairs+define-by+resolve-spec : {M : Type 1} → statement M
     ask-pairs-μ-loop
     (ask-pairs-loop-holds t)
     (ask-pairs-cast-x t)
+    (ask-pairs-sub-y t)
     (ask-pairs-resolve-requires t)
-    (ask-pairs-sub-resolve t)
     (ask-pairs-resolve-requires-2 t)
     (ask-pairs-add-a t)
     (ask-pairs-sub-k t)
@@ -906,16 +618,8 @@ pub +ask-pairs+define-by+resolve-spec : {M : Type 1} → statement M
       left-reads.Learnt,
       right-reads.Asked,
       right-reads.Learnt,
-      maximum-reads.Asked,
-      maximum-reads.Learnt,
-      counted-reads.Asked,
-      counted-reads.Learnt,
-      less-reads.Asked,
-      less-reads.Learnt,
-      lower-reads.Asked,
-      lower-reads.Learnt,
-      span-reads.Asked,
-      span-reads.Learnt,
+      spread-reads.Asked,
+      spread-reads.Learnt,
       ask-pairs-below t,
       ask-pairs.Post,
       finish-reads.Asked,
@@ -934,12 +638,7 @@ pub +ask-pairs+define-by+resolve-spec : {M : Type 1} → statement M
     (define-by-halved-requires t)
     (define-by-left-requires t)
     (define-by-right-requires t)
-    (define-by-maximum-requires t)
-    (define-by-counted-requires t)
-    (define-by-less-requires t)
-    (define-by-maximum-requires-2 t)
-    (define-by-lower-requires t)
-    (define-by-span-requires t)
+    (define-by-spread-requires t)
     (define-by-sub-ask-pairs t)
     (define-by-ask-pairs-requires t)
     (define-by-finish-requires t)

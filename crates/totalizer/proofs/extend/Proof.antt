@@ -1,7 +1,5 @@
 -- `extend` counts the first pairs, those whose b exceeds the bound, asks for what they use and then writes their clauses. Assumes nothing.
-use Prim.Native.Nat.{_<_}
-use native.Mathlib.Omega.{arith}
-use Rattle.totalizer.proofs.Pairs.{asks-extended}
+use Rattle.totalizer.proofs.Pairs.{span-fewer}
 use Rattle.totalizer.proofs.Defining.{extend-stop, extend-done}
 use borrow.Author.Needs.{needs}
 use Rattle.totalizer.proofs.extend.Statement.{statement}
@@ -16,26 +14,14 @@ left-requires c κs = search needs
 right-requires : tie.Need-right-requires
 right-requires c κs = search needs
 
-maximum-requires : tie.Need-maximum-requires
-maximum-requires c κs = search needs
+spread-requires : tie.Need-spread-requires
+spread-requires c κs = search needs
 
 less-requires : tie.Need-less-requires
 less-requires c κs = search needs
 
-maximum-requires-2 : tie.Need-maximum-requires-2
-maximum-requires-2 c κs = search needs
-
-lower-requires : tie.Need-lower-requires
-lower-requires c κs = search needs
-
-span-requires : tie.Need-span-requires
-span-requires c κs = search needs
-
 less-requires-2 : tie.Need-less-requires-2
 less-requires-2 c κs = search needs
-
-less-requires-3 : tie.Need-less-requires-3
-less-requires-3 c κs = search needs
 
 at-most-requires : tie.Need-at-most-requires
 at-most-requires c κs = search needs
@@ -44,10 +30,10 @@ height-requires : tie.Need-height-requires
 height-requires c κs = search needs
 
 ask-pairs-requires : tie.Need-ask-pairs-requires
-ask-pairs-requires c κs = search needs
+ask-pairs-requires c κs = span-fewer _ _ _ _ _ (c .before .before .before .before .before .before .before .spread .ensures .within) (c .before .before .before .before .at-most .ensures)
 
 write-requires : tie.Need-write-requires
-write-requires c κs = search needs
+write-requires c κs = span-fewer _ _ _ _ _ (c .before .before .before .before .before .before .before .before .before .before .before .before .before .spread .ensures .within) (c .before .before .before .before .before .before .before .before .before .before .at-most .ensures)
 
 same-length : tie.Need-same-length
 same-length c = search needs
@@ -56,7 +42,7 @@ same-length-2 : tie.Need-same-length-2
 same-length-2 c = search needs
 
 returns-2 : tie.Need-returns-2
-returns-2 c = let i : c .before .before .before .before .before .before .before .before .before .before .before .before .before .before .before .before .before .before .before .before .maximum .result < 4294967296 = omega (arith, c .before .before .before .before .before .before .before .before .before .before .before .before .before .before .before .before .before .before .before .before .maximum .ok) in λ w e f. extend-done _ _ _ _ _ _ w (c .before .before .before .before .before .before .before .before .before .before .before .before .before .before .before .before .before .before .before .before .before .before .before .before .before .before .if1 .left) e _ _ _ _ _ _ _ _ _ _ _ (c .before .before .before .before .before .before .before .before .before .before .before .before .before .before .before .before .before .before .before .before .before .before .before .before .left .ensures) (c .before .before .before .before .before .before .before .before .before .before .before .before .before .before .before .before .before .before .before .before .before .before .right .ensures) (c .before .before .before .before .before .before .before .before .before .before .before .before .before .before .before .before .before .before .before .before .maximum .ensures) (c .before .before .before .before .before .before .before .before .before .before .before .before .before .before .before .before .before .before .before .less .ensures) (c .before .before .before .before .before .before .before .before .before .before .before .before .before .before .before .before .before .maximum2 .ensures) (c .before .before .before .before .before .before .before .before .before .before .before .before .before .before .before .before .lower .ensures) (c .before .before .before .before .before .before .before .before .before .before .before .before .before .before .before .span .ensures) (c .before .before .before .before .before .before .before .before .before .before .before .before .before .before .less2 .ensures) (c .before .before .before .before .before .before .before .before .before .before .before .before .before .less3 .ensures) (c .before .before .before .before .before .before .before .before .before .before .before .before .at-most .ensures) (c .before .before .before .before .before .before .before .before .before .before .height .ensures) _ _ (c .before .before .before .before .before .before .before .ask-pairs .ensures (asks-extended _ _ _ i (c .before .before .before .before .before .before .before .before .before .before .before .before .before .before .before .before .before .before .before .less .ensures))) (c .before .write .ensures _ f (asks-extended _ _ _ i (c .before .before .before .before .before .before .before .before .before .before .before .before .before .before .before .before .before .before .before .less .ensures)))
+returns-2 c = λ w e f. extend-done _ _ _ _ _ _ w (c .before .before .before .before .before .before .before .before .before .before .before .before .before .before .before .before .before .before .before .before .before .if1 .left) e _ _ _ _ _ _ _ _ (c .before .before .before .before .before .before .before .before .before .before .before .before .before .before .before .before .before .before .before .left .ensures) (c .before .before .before .before .before .before .before .before .before .before .before .before .before .before .before .before .before .right .ensures) (c .before .before .before .before .before .before .before .before .before .before .before .before .before .before .before .spread .ensures) (c .before .before .before .before .before .before .before .before .before .before .before .before .before .before .less .ensures) (c .before .before .before .before .before .before .before .before .before .before .before .before .before .less2 .ensures) (c .before .before .before .before .before .before .before .before .before .before .before .before .at-most .ensures) (c .before .before .before .before .before .before .before .before .before .before .height .ensures) _ _ (c .before .before .before .before .before .before .before .ask-pairs .ensures) (c .before .write .ensures _ f)
 
 pub extend-spec : {M : Type 1} → statement M
 extend-spec =
@@ -65,13 +51,9 @@ extend-spec =
     returns
     left-requires
     right-requires
-    maximum-requires
+    spread-requires
     less-requires
-    maximum-requires-2
-    lower-requires
-    span-requires
     less-requires-2
-    less-requires-3
     at-most-requires
     height-requires
     ask-pairs-requires
