@@ -1,11 +1,9 @@
 // Numbers and literals. Signed words are read, compared and written here alone; the other crates pass a literal's word,
 // twice its variable, one more for a negation.
 ghost use mathlib.Core.Path.{_≡_};
-ghost use mathlib.Core.Bool.{cond};
-ghost use Prim.Native.Nat.{ℕ, _<_, _≤_, _%_, _^_};
+ghost use Prim.Native.Nat.{_<_, _≤_, _%_, _^_};
 ghost use lib.Dec.{eqb};
-ghost use lib.ListN.{length};
-ghost use lib.IntN.{ℤ, negℤ, natAbs};
+ghost use lib.IntN.{negℤ, natAbs};
 ghost use Rattle.rules.specs.Numbers.{lawful};
 ghost use Rattle.rules.specs.Digits.{digits, top-bit, power-of-two};
 ghost use Rattle.rules.specs.Records.{literal-word, word-literal};

@@ -111,6 +111,16 @@ held-stores e σ t h = record {
   count-is = h .records-is;
 }
 
+-- a rule that depends on the arena, where the store holds it
+pub held : (s : List ℕ) (c : List ℤ) (m : Marks) (τ : St) (f : Arena → Arena) → m .full ≡ false →
+    ((t : Arena) → Stores s (m .records) (t .records) → m .fresh ≡ t .fresh → (g : Arena → Arena) × Steps (st s c m) τ g × (g t ≡ f t)) → Steps (st s c m) τ f
+held s c m τ f k by = record {
+  go = λ e t h.
+      let hd : Holds e (st s c m) t = going e (st s c m) t h k .1 in
+      let x = by t (held-stores e (st s c m) t hd) (hd .fresh-is) in
+      subst (Carries e τ) (x .2) (x .1 .go e t h);
+}
+
 -- Rules that name something ------------------------------------------------------------------------------------------
 
 -- a step whose number is of no use

@@ -1,8 +1,7 @@
 // Records and clauses in lent words: eight words to a record, clause words closed by 0, for slices of any length.
 // A read past the end is 0 and a write past the end does nothing.
 ghost use mathlib.Core.Path.{_≡_};
-ghost use mathlib.Core.Bool.{Bool};
-ghost use mathlib.Core.List.{List, _∷_, []};
+ghost use mathlib.Core.List.{List};
 ghost use Prim.Native.Nat.{ℕ, _+_, _*_, _<_};
 ghost use lib.ListN.{length, take};
 ghost use lib.IntN.{ℤ, pos};

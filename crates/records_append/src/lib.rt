@@ -1,6 +1,6 @@
 // A record appended, of each kind, where there is room; else the marks come back with the full mark set.
 ghost use mathlib.Core.Path.{_≡_};
-ghost use mathlib.Core.Bool.{Bool, cond};
+ghost use mathlib.Core.Bool.{cond};
 ghost use mathlib.Core.List.{List};
 ghost use Prim.Native.Nat.{ℕ, suc, _+_, max};
 ghost use lib.IntN.{ℤ};

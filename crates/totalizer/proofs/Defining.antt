@@ -10,96 +10,15 @@ use Rattle.rules.specs.Lists.{in-turn, keep, rising}
 use Rattle.rules.specs.Records.{Kind, leaf, join, dummy, Output, Record, nodeAt, left-link, right-link, literal-word, word-literal}
 use Rattle.rules.specs.Totalizer.{Arena, counts, asks, number-of, pairs-from, pairs, side, clause, write, take-number, Define, ask, ask-pair, define-join, define-kind, define, define-output}
 use Rattle.rules.specs.Refinement.{further-pairs, extend}
-use Rattle.laws.specs.Words.{literal-word-literal}
 use Rattle.records.specs.declared.Marks.{Marks}
 use Rattle.records.specs.Words.{side-of, full-of}
 use Rattle.records.specs.Carries.{St, st, storeOf, marksOf, Fits, Holds, Carries, Steps, Stores, with-clause, clause-of, is-join, is-halved}
-use Rattle.records.proofs.Grow.{clause-grows}
 use Rattle.records.proofs.Read.{join-parts}
-use Rattle.records.proofs.Step.{steps-none, steps-then, steps-same, stop, going, filled, held-stores, Rest, rest-turn}
-use Rattle.totalizer.specs.Spread.{Spread}
-use Rattle.totalizer.proofs.Growth.{define-grows, output-grows, extend-grows, finish-grows}
-use Rattle.totalizer.proofs.Pairs.{further, write-turn, pairs-turn, rising-turn}
-
--- The value that a count asks -------------------------------------------------------------------------------------------
-
-pub through-far : (half : Bool) (b : ℕ) → half ≡ true → 2147483647 < b → asks half b < 4294967296 → 0 ≡ asks half b
-unfolding asks
-through-far true b e i j = absurd (omega arith)
-through-far false b e i j = absurd (false≢true e)
-
-pub through-half : (half : Bool) (b : ℕ) → half ≡ true → 2 * b ≡ asks half b
-unfolding asks
-through-half true b e = refl
-through-half false b e = absurd (false≢true e)
-
-pub through-whole : (half : Bool) (b : ℕ) → half ≡ false → b ≡ asks half b
-unfolding asks
-through-whole true b e = absurd (false≢true (sym e))
-through-whole false b e = refl
-
--- Clauses -----------------------------------------------------------------------------------------------------------------
-
--- a rule that depends on the arena, where the store holds it
-held : (s : List ℕ) (c : List ℤ) (m : Marks) (τ : St) (f : Arena → Arena) → m .full ≡ false →
-    ((t : Arena) → Stores s (m .records) (t .records) → m .fresh ≡ t .fresh → (g : Arena → Arena) × Steps (st s c m) τ g × (g t ≡ f t)) → Steps (st s c m) τ f
-held s c m τ f k by = record {
-  go = λ e t h.
-      let hd : Holds e (st s c m) t = going e (st s c m) t h k .1 in
-      let x = by t (held-stores e (st s c m) t hd) (hd .fresh-is) in
-      subst (Carries e τ) (x .2) (x .1 .go e t h);
-}
-
-module _ (s : List ℕ) (c : List ℤ) (m : Marks) (half : Bool) (l r a b number : ℕ) where
-  pub clause-stop : m .full ≡ true → Steps (st s c m) (st s c m) (λ t. with-clause (clause (t .records) half l r number (a, b)) t)
-  clause-stop k =
-      stop (st s c m) (λ t. with-clause (clause (t .records) half l r number (a, b)) t) (λ t. clause-grows (clause (t .records) half l r number (a, b)) t) k
-
-  pub clause-done : (τ : St) (p q y o : ℕ) → m .full ≡ false →
-      ((rs : List Record) → Stores s (m .records) rs → side-of p ≡ side rs l a) → y ≡ asks half b →
-      ((rs : List Record) → Stores s (m .records) rs → side-of q ≡ side rs r y) → o ≡ literal-word (pos number) →
-      Steps (st s c m) τ (with-clause (clause-of p q o)) → Steps (st s c m) τ (λ t. with-clause (clause (t .records) half l r number (a, b)) t)
-  unfolding clause clause-of
-  clause-done τ p q y o k ep ey eq eo z =
-      held s c m τ (λ t. with-clause (clause (t .records) half l r number (a, b)) t) k (λ t h e. (
-        with-clause (clause-of p q o),
-        z,
-        ap (λ (x : List ℤ). with-clause x t)
-            (ap₂ (λ (x y : List ℤ). x ++ (y ++ (word-literal o ∷ []))) (ep (t .records) h) (eq (t .records) h ∙ ap (side (t .records) r) ey) ∙
-            ap (λ (x : ℤ). side (t .records) l a ++ (side (t .records) r (asks half b) ++ (x ∷ []))) (ap word-literal eo ∙ literal-word-literal (pos number))),
-      ))
-
-pub clauses-turn : (σ₀ σ τ : St) (f : Arena → Arena) (half : Bool) (l r number k a v : ℕ) → 0 < k →
-    Steps σ τ (λ t. with-clause (clause (t .records) half l r number (a, v - a)) t) →
-    Rest σ₀ σ f (write half l r number (pairs-from k a v)) → Rest σ₀ τ f (write half l r number (pairs-from (k - 1) (a + 1) v))
-clauses-turn σ₀ σ τ f half l r number k a v i p =
-    rest-turn σ₀ σ τ f (write half l r number (pairs-from k a v)) (write half l r number (pairs-from (k - 1) (a + 1) v))
-    (λ t. with-clause (clause (t .records) half l r number (a, v - a)) t) p (write-turn half l r number k a v i)
-
-pub word-of-number : (n : ℕ) → 2 * n ≡ literal-word (pos n)
-unfolding literal-word
-word-of-number n = refl
-
--- The clauses and the number ------------------------------------------------------------------------------------------------
-
-module _ (s : List ℕ) (c : List ℤ) (m : Marks) (n v : ℕ) (half : Bool) (l r : ℕ) (ps : List (ℕ × ℕ)) where
-  pub finish-stop : m .full ≡ true → Steps (st s c m) (st s c m) (λ t. take-number n v (write half l r (t .fresh) ps t))
-  finish-stop k = stop (st s c m) (λ t. take-number n v (write half l r (t .fresh) ps t)) (finish-grows n v half l r ps) k
-
-  pub finish-end : (z : Marks) → m .full ≡ false → z ≡ full-of m → 1000000000 < m .fresh →
-      Steps (st s c m) (st s c z) (λ t. take-number n v (write half l r (t .fresh) ps t))
-  unfolding take-number write
-  finish-end z k ez i =
-      filled s c m z (λ t. take-number n v (write half l r (t .fresh) ps t)) k ez (λ e t h f hd q. omega (arith, hd .fresh-is, q .fresh-fit))
-
-  pub finish-done : (τ υ : St) → m .full ≡ false → Steps (st s c m) τ (write half l r (m .fresh) ps) → Steps τ υ (take-number n v) →
-      Steps (st s c m) υ (λ t. take-number n v (write half l r (t .fresh) ps t))
-  finish-done τ υ k p q =
-      held s c m υ (λ t. take-number n v (write half l r (t .fresh) ps t)) k (λ t h e. (
-        (λ u. take-number n v (write half l r (m .fresh) ps u)),
-        steps-then (st s c m) τ υ (write half l r (m .fresh) ps) (take-number n v) p q,
-        ap (λ (w : ℕ). take-number n v (write half l r w ps t)) e,
-      ))
+use Rattle.records.proofs.Step.{steps-none, steps-then, steps-same, stop, going, filled, held, Rest, rest-turn}
+use Rattle.totalizer_write.specs.Spread.{Spread}
+use Rattle.totalizer.proofs.Growth.{define-grows, output-grows, extend-grows}
+use Rattle.totalizer_write.proofs.Pairs.{span-fewer, spread-pairs}
+use Rattle.totalizer.proofs.Pairs.{further, pairs-turn, rising-turn}
 
 -- A connection --------------------------------------------------------------------------------------------------------------
 
@@ -198,7 +117,7 @@ module _ (s : List ℕ) (c : List ℤ) (m : Marks) (h n v : ℕ) (some : h ≡ 0
         (el : (rs : List Record) → Stores s (m .records) rs → l ≡ left-link (nodeAt rs n .kind))
         (er : (rs : List Record) → Stores s (m .records) rs → r ≡ right-link (nodeAt rs n .kind)) (es : Spread s (m .records) half l r v lo many) where
       pub def-done : (τ υ : St) → (asks half (v - lo) < 4294967296 → Steps (st s c m) τ (λ t. in-turn (ask-pair (define (h - 1)) half l r) t (pairs-from many lo v))) →
-          (asks half (v - lo) < 4294967296 → Steps τ υ (λ t. take-number n v (write half l r (t .fresh) (pairs-from many lo v) t))) →
+          (lo + many ≤ v + 1 → asks half (v - lo) < 4294967296 → Steps τ υ (λ t. take-number n v (write half l r (t .fresh) (pairs-from many lo v) t))) →
           Steps (st s c m) υ (λ t. define h t n v)
       def-done τ υ p q =
           held s c m υ (λ t. define h t n v) k (λ t at e.
@@ -209,9 +128,9 @@ module _ (s : List ℕ) (c : List ℤ) (m : Marks) (h n v : ℕ) (some : h ≡ 0
           (ap₂ (λ (y : Bool) (z : ℕ). join y z (right-link (nodeAt (t .records) n .kind))) (sym (eh (t .records) at)) (sym (el (t .records) at)) ∙
           ap (join half l) (sym (er (t .records) at))) in (
             (λ u. take-number n v (write half l r (in-turn (ask-pair d half l r) u ps .fresh) ps (in-turn (ask-pair d half l r) u ps))),
-            steps-then (st s c m) τ υ (λ u. in-turn (ask-pair d half l r) u ps) (λ u. take-number n v (write half l r (u .fresh) ps u)) (p (es .askable)) (q (es .askable)),
+            steps-then (st s c m) τ υ (λ u. in-turn (ask-pair d half l r) u ps) (λ u. take-number n v (write half l r (u .fresh) ps u)) (p (es .askable)) (q (es .within) (es .askable)),
             join-kind d n v (nodeAt (t .records) n .kind) t half l r ps kind (number-zero y (number-of (t .records) n v) (ey (t .records) at) none)
-                (es .pairs-are (t .records) at) ∙ sym (def-suc h t n v some),
+                (spread-pairs s (m .records) half l r v lo many es (t .records) at) ∙ sym (def-suc h t n v some),
           ))
 
 -- with the node's own height
@@ -235,26 +154,26 @@ outputs-turn σ₀ σ τ f n k v i p =
 pub extend-stop : (σ : St) (n most : ℕ) (o : Output) → marksOf σ .full ≡ true → Steps σ σ (λ t. extend n most t o)
 extend-stop σ n most o k = stop σ (λ t. extend n most t o) (extend-grows n most o) k
 
-module _ (s : List ℕ) (c : List ℤ) (m : Marks) (n most v : ℕ) (o : Output) (k : m .full ≡ false) (ev : v ≡ o .value) (l r lo all above fewer many h : ℕ)
+module _ (s : List ℕ) (c : List ℤ) (m : Marks) (n most v : ℕ) (o : Output) (k : m .full ≡ false) (ev : v ≡ o .value) (l r lo all many h : ℕ)
     (el : (rs : List Record) → Stores s (m .records) rs → l ≡ left-link (nodeAt rs n .kind))
     (er : (rs : List Record) → Stores s (m .records) rs → r ≡ right-link (nodeAt rs n .kind)) (es : Spread s (m .records) true l r v lo all)
-    (ew : above ≡ v - most) (ef : fewer ≡ above - lo) (em : many ≡ min all fewer) (eh : (rs : List Record) → Stores s (m .records) rs → h ≡ nodeAt rs n .height) where
+    (em : many ≡ min all (v - most - lo)) (eh : (rs : List Record) → Stores s (m .records) rs → h ≡ nodeAt rs n .height) where
   -- the pairs whose b exceeds the bound
   few : (rs : List Record) → Stores s (m .records) rs → pairs-from many lo v ≡ further-pairs rs n most (o .value)
   unfolding further-pairs
   few rs at =
-      let first : pairs-from many lo v ≡ keep (λ p. ltb most (p .1)) (pairs-from all lo v) = rw (em, ef, ew) (sym (further most all lo v)) in
-      first ∙ (ap (keep (λ p. ltb most (p .1))) (es .pairs-are rs at) ∙
+      let first : pairs-from many lo v ≡ keep (λ p. ltb most (p .1)) (pairs-from all lo v) = rw em (sym (further most all lo v)) in
+      first ∙ (ap (keep (λ p. ltb most (p .1))) (spread-pairs s (m .records) true l r v lo all es rs at) ∙
       rw (el rs at, er rs at, ev) refl)
 
   pub extend-done : (τ υ : St) → (asks true (v - lo) < 4294967296 → Steps (st s c m) τ (λ t. in-turn (ask-pair (define h) true l r) t (pairs-from many lo v))) →
-      (asks true (v - lo) < 4294967296 → Steps τ υ (write true l r (o .number) (pairs-from many lo v))) → Steps (st s c m) υ (λ t. extend n most t o)
+      (lo + many ≤ v + 1 → asks true (v - lo) < 4294967296 → Steps τ υ (write true l r (o .number) (pairs-from many lo v))) → Steps (st s c m) υ (λ t. extend n most t o)
   unfolding extend
   extend-done τ υ p q =
       held s c m υ (λ t. extend n most t o) k (λ t at e.
       let ps : List (ℕ × ℕ) = pairs-from many lo v in (
         (λ u. write true l r (o .number) ps (in-turn (ask-pair (define h) true l r) u ps)),
-        steps-then (st s c m) τ υ (λ u. in-turn (ask-pair (define h) true l r) u ps) (write true l r (o .number) ps) (p (es .askable)) (q (es .askable)),
+        steps-then (st s c m) τ υ (λ u. in-turn (ask-pair (define h) true l r) u ps) (write true l r (o .number) ps) (p (es .askable)) (q (span-fewer v lo all (v - most - lo) many (es .within) em) (es .askable)),
         same t (el (t .records) at) (er (t .records) at) (eh (t .records) at) (few (t .records) at),
       ))
     where

@@ -3,29 +3,12 @@ use mathlib.Core.Path.{_≡_, refl, sym, ap, _∙_}
 use mathlib.Core.Bool.{Bool, true}
 use mathlib.Core.List.{List, [], _∷_, _++_, map}
 use Prim.Native.Nat.{ℕ, zero, suc}
-use native.Mathlib.Omega.{arith}
-use lib.ListN.{length, length-append}
 use Rattle.rules.specs.Lists.{in-turn}
 use Rattle.rules.specs.Records.{Kind, leaf, join, dummy, Output, nodeAt, left-link, right-link}
 use Rattle.rules.specs.Totalizer.{Arena, counts, asks, number-of, pairs, clause, write, take-number, Define, ask, ask-pair, define-join, define-kind, define, define-output}
-use Rattle.rules.specs.Build.{clause-words}
 use Rattle.rules.specs.Refinement.{further-pairs, extend}
-use Rattle.records.proofs.Lay.{words-append}
 use Rattle.records.proofs.Grow.{Grows, grows-self, grows-trans}
-use Rattle.records_append.proofs.Appending.{number-grows}
-
-pub write-grows : (half : Bool) (l r number : ℕ) (ps : List (ℕ × ℕ)) (t : Arena) → Grows t (write half l r number ps t)
-unfolding write
-write-grows half l r number ps t = record {
-  records-grow = omega arith;
-  words-grow = omega (
-    arith,
-    ap length (words-append (t .clauses) (map (clause (t .records) half l r number) ps)),
-    length-append (clause-words (t .clauses)) (clause-words (map (clause (t .records) half l r number) ps)),
-  );
-  fresh-grow = omega arith;
-  sizes-grow = omega arith;
-}
+use Rattle.totalizer_write.proofs.Growth.{write-grows, finish-grows}
 
 -- a step for each element grows if each does
 pub turns-grow : {A : Type 0} (f : Arena → A → Arena) → ((t : Arena) (x : A) → Grows t (f t x)) → (xs : List A) (t : Arena) → Grows t (in-turn f t xs)
@@ -46,11 +29,6 @@ unfolding ask-pair
 pair-grows d g half l r t p =
     let u : Arena = ask d t l (p .0) in
     grows-trans t u (ask d u r (asks half (p .1))) (ask-grows d g t l (p .0)) (ask-grows d g u r (asks half (p .1)))
-
-pub finish-grows : (n v : ℕ) (half : Bool) (l r : ℕ) (ps : List (ℕ × ℕ)) (t : Arena) → Grows t (take-number n v (write half l r (t .fresh) ps t))
-finish-grows n v half l r ps t =
-    let u : Arena = write half l r (t .fresh) ps t in
-    grows-trans t u (take-number n v u) (write-grows half l r (t .fresh) ps t) (number-grows n v u)
 
 join-grows : (d : Define) → Growing d → (n v : ℕ) (half : Bool) (l r : ℕ) (ps : List (ℕ × ℕ)) (x : ℕ) (t : Arena) → Grows t (define-join d n v half l r ps x t)
 unfolding define-join

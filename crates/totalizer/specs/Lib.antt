@@ -1,2 +1,1 @@
--- What the steps of defining cite beside the rules and the relation of records.
-pub mod Spread
+-- The promises of the totalizer cite the rules and the relation of records alone.

@@ -1,164 +1,14 @@
 // Output definition over lent records: an output asks its connections and a connection asks its node. Every promise is the
 // rule itself, carried out as far as there is room.
 ghost use mathlib.Core.Path.{_≡_};
-ghost use mathlib.Core.List.{List};
-ghost use Prim.Native.Nat.{ℕ, suc, _+_, _-_, _*_, _<_, _≤_, min};
+ghost use Prim.Native.Nat.{_+_, _-_, _<_, _≤_};
 ghost use lib.IntN.{pos};
 ghost use Rattle.rules.specs.Lists.{in-turn, rising};
 ghost use Rattle.rules.specs.Records.{Output, literal-word};
-ghost use Rattle.rules.specs.Totalizer.{asks, ask, ask-pair, pairs-from, clause, write, take-number, define, define-output};
+ghost use Rattle.rules.specs.Totalizer.{asks, ask, ask-pair, pairs-from, define, define-output};
 ghost use Rattle.rules.specs.Refinement.{extend};
-ghost use Rattle.records.specs.Carries.{st, Steps, with-clause};
-ghost use Rattle.totalizer.specs.Spread.{Spread};
+ghost use Rattle.records.specs.Carries.{st, Steps};
 use records::Marks;
-
-// Output v less x, not below 0.
-fn less(v: u32, x: u32) -> u32
-    ensures { λ r. ⌜ r ≡ v - x ⌝ }
-{
-    if v < x {
-        return 0;
-    }
-    v - x
-}
-
-fn lower(x: u32, y: u32) -> u32
-    ensures { λ r. ⌜ r ≡ min x y ⌝ }
-{
-    if x < y {
-        return x;
-    }
-    y
-}
-
-// How many numbers stand from lo to hi.
-fn span(hi: u32, lo: u32) -> usize
-    ensures { λ r. ⌜ r ≡ suc hi - lo ⌝ }
-{
-    if hi < lo {
-        return 0;
-    }
-    ((hi - lo) as usize) + 1
-}
-
-fn at_most(x: usize, y: u32) -> usize
-    ensures { λ r. ⌜ r ≡ min x y ⌝ }
-{
-    if x < (y as usize) {
-        return x;
-    }
-    y as usize
-}
-
-// Pairs that add to a value: the first a, and how many.
-struct Range {
-    lo: u32,
-    many: usize,
-}
-
-// The pairs that add to v within the maxima of two sides, the right one halved or not.
-fn spread(s: &[u32], records: usize, half: bool, l: u32, r: u32, v: u32) -> Range
-    ensures { λ x. ⌜ Spread (now (s .entry)) records half l r v (x .lo) (x .many) ⌝ }
-{
-    let right = records_append::counted(half, records::maximum(s, records, r));
-    let left = records::maximum(s, records, l);
-    let lo = less(v, right);
-    Range {
-        lo,
-        many: span(lower(v, left), lo),
-    }
-}
-
-// The value that a count b asks of its node, where it fits a word.
-fn through(half: bool, b: u32) -> u32
-    ensures { λ r. ⌜ (asks half b < 4294967296 → r ≡ asks half b) ⌝ }
-{
-    if half {
-        if 2147483647 < b {
-            return 0;
-        }
-        return 2 * b;
-    }
-    b
-}
-
-// The clause of one pair.
-fn pair_clause(
-    s: &[u32],
-    c: &mut [i32],
-    m: Marks,
-    half: bool,
-    l: u32,
-    r: u32,
-    a: u32,
-    b: u32,
-    o: u32,
-) -> Marks
-    ensures { λ z. ⌜ ((number : ℕ) → o ≡ literal-word (pos number) → asks half b < 4294967296 → Steps (st (now (s .entry)) (now (c .entry)) m) (st (now (s .entry)) (now (c .exit)) z) (λ t. with-clause (clause (t .records) half l r number (a, b)) t)) ⌝ }
-{
-    if m.full {
-        return m;
-    }
-    let n = m.records;
-    let p = totalizer_find::side(s, n, l, a);
-    let q = totalizer_find::side(s, n, r, through(half, b));
-    records::put_clause(c, m, p, q, o)
-}
-
-// The clauses of the pairs from lo on, a rising.
-fn write(
-    s: &[u32],
-    c: &mut [i32],
-    m: Marks,
-    half: bool,
-    l: u32,
-    r: u32,
-    v: u32,
-    lo: u32,
-    many: usize,
-    o: u32,
-) -> Marks
-    requires { ⌜ lo + many ≤ v + 1 ⌝ }
-    ensures { λ z. ⌜ ((number : ℕ) → o ≡ literal-word (pos number) → asks half (v - lo) < 4294967296 → Steps (st (now (s .entry)) (now (c .entry)) m) (st (now (s .entry)) (now (c .exit)) z) (write half l r number (pairs-from many lo v))) ⌝ }
-{
-    let mut n = m;
-    let mut a = lo as usize;
-    let mut k = many;
-    while 0 < k {
-        let x = a as u32;
-        n = pair_clause(s, c, n, half, l, r, x, v - x, o);
-        a += 1;
-        k -= 1;
-    }
-    n
-}
-
-// The clauses of an output with the next number, and then that number taken.
-fn finish(
-    s: &mut [u32],
-    c: &mut [i32],
-    m: Marks,
-    node: u32,
-    v: u32,
-    half: bool,
-    l: u32,
-    r: u32,
-    lo: u32,
-    many: usize,
-) -> Marks
-    requires { ⌜ lo + many ≤ v + 1 ⌝ }
-    ensures { λ z. ⌜ (asks half (v - lo) < 4294967296 → Steps (st (now (s .entry)) (now (c .entry)) m) (st (now (s .exit)) (now (c .exit)) z) (λ t. take-number node v (write half l r (t .fresh) (pairs-from many lo v) t))) ⌝ }
-{
-    if m.full {
-        return m;
-    }
-    let fresh = m.fresh;
-    if 1000000000 < fresh {
-        return records::full(m);
-    }
-    let n = write(s, c, m, half, l, r, v, lo, many, 2 * fresh);
-    records_append::output(s, n, node, v)
-}
 
 fn define_by(s: &mut [u32], c: &mut [i32], m: Marks, node: u32, v: u32, height: u32) -> Marks
     ensures { λ z. ⌜ Steps (st (now (s .entry)) (now (c .entry)) m) (st (now (s .exit)) (now (c .exit)) z) (λ t. define height t node v) ⌝ }
@@ -179,9 +29,9 @@ fn define_by(s: &mut [u32], c: &mut [i32], m: Marks, node: u32, v: u32, height: 
     let half = records::halved(s, n, node);
     let l = records::left(s, n, node);
     let r = records::right(s, n, node);
-    let x = spread(s, n, half, l, r, v);
+    let x = totalizer_write::spread(s, n, half, l, r, v);
     let k = ask_pairs(s, c, m, half, l, r, v, x.lo, x.many, height - 1);
-    finish(s, c, k, node, v, half, l, r, x.lo, x.many)
+    totalizer_write::finish(s, c, k, node, v, half, l, r, x.lo, x.many)
 }
 
 // What the pairs from lo on use, a rising, left before right.
@@ -226,7 +76,7 @@ fn resolve(
 ) -> Marks
     ensures { λ z. ⌜ (asks half x < 4294967296 → Steps (st (now (s .entry)) (now (c .entry)) m) (st (now (s .exit)) (now (c .exit)) z) (λ t. ask (define height) t link (asks half x))) ⌝ }
 {
-    let y = through(half, x);
+    let y = totalizer_write::through(half, x);
     if y == 0 {
         return m;
     }
@@ -280,9 +130,9 @@ pub fn extend(s: &mut [u32], c: &mut [i32], m: Marks, node: u32, most: u32, v: u
     let n = m.records;
     let l = records::left(s, n, node);
     let r = records::right(s, n, node);
-    let x = spread(s, n, true, l, r, v);
-    let many = at_most(x.many, less(less(v, most), x.lo));
+    let x = totalizer_write::spread(s, n, true, l, r, v);
+    let many = totalizer_write::further(x, v, most);
     let height = records::height(s, n, node);
     let k = ask_pairs(s, c, m, true, l, r, v, x.lo, many, height);
-    write(s, c, k, true, l, r, v, x.lo, many, o)
+    totalizer_write::write(s, c, k, true, l, r, v, x.lo, many, o)
 }

@@ -2,7 +2,6 @@
 // words that store records; what is answered over other words is not said.
 ghost use mathlib.Core.Path.{_≡_};
 ghost use mathlib.Core.List.{List};
-ghost use Prim.Native.Nat.{ℕ};
 ghost use lib.IntN.{pos};
 ghost use Rattle.rules.specs.Records.{Record, literal-word, nodeAt};
 ghost use Rattle.rules.specs.Totalizer.{number-of, literal-of, side};

@@ -1,5 +1,4 @@
 // The balanced merge of a run of nodes.
-ghost use mathlib.Core.Path.{_≡_};
 ghost use mathlib.Core.List.{List};
 ghost use lib.IntN.{ℤ};
 ghost use Rattle.rules.specs.Totalizer.{merge};

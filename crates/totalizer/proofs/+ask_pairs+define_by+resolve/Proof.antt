@@ -9,7 +9,8 @@ use Rattle.rules.specs.Lists.{in-turn}
 use Rattle.rules.specs.Totalizer.{asks, ask-pair, define, pairs-from}
 use Rattle.records.specs.Carries.{st}
 use Rattle.records.proofs.Step.{Rest, rest-start, rest-end}
-use Rattle.totalizer.proofs.Pairs.{asks-later, asks-whole, pairs-end}
+use Rattle.totalizer_write.proofs.Pairs.{asks-later, asks-whole}
+use Rattle.totalizer.proofs.Pairs.{pairs-end}
 use Rattle.totalizer.proofs.Defining.{ask-none, ask-some, asks-turn, def-zero, def-stop, def-other, def-found, def-done}
 use Prim.Native.Nat.{ℕ, _<_}
 use borrow.Fn.Kinds.{In}
@@ -27,9 +28,9 @@ use Rattle.records.proofs.halved.Reads as halved-reads
 use Rattle.records.proofs.joins.Reads as joins-reads
 use Rattle.records.proofs.left.Reads as left-reads
 use Rattle.records.proofs.right.Reads as right-reads
-use Rattle.totalizer.proofs.finish.Reads as finish-reads
-use Rattle.totalizer.proofs.spread.Reads as spread-reads
-use Rattle.totalizer.proofs.through.Reads as through-reads
+use Rattle.totalizer_write.proofs.finish.Reads as finish-reads
+use Rattle.totalizer_write.proofs.spread.Reads as spread-reads
+use Rattle.totalizer_write.proofs.through.Reads as through-reads
 use Rattle.totalizer_find.proofs.find.Reads as find-reads
 use Rattle.totalizer.proofs.+ask_pairs+define_by+resolve.{statement}
 use Rattle.totalizer.proofs.+ask_pairs+define_by+resolve.Tie.{close}
@@ -475,7 +476,7 @@ define-by-finish-requires : (t : ℕ) → define-by-lts.Need-finish-requires (
   finish-reads.Asked,
   finish-reads.Learnt,
 ) (define-by-at t) define-by.Post
-define-by-finish-requires t c κs = c .before .before .before .before .before .before .before .before .spread .ensures .within
+define-by-finish-requires t c κs = search needs
 
 define-by-same-length-3 : (t : ℕ) → define-by-lts.Need-same-length-3 (
   joins-reads.Asked,

@@ -1,5 +1,5 @@
 -- `extend` counts the first pairs, those whose b exceeds the bound, asks for what they use and then writes their clauses. Assumes nothing.
-use Rattle.totalizer.proofs.Pairs.{span-fewer}
+use Rattle.totalizer_write.proofs.Pairs.{span-fewer}
 use Rattle.totalizer.proofs.Defining.{extend-stop, extend-done}
 use borrow.Author.Needs.{needs}
 use Rattle.totalizer.proofs.extend.Statement.{statement}
@@ -17,23 +17,17 @@ right-requires c κs = search needs
 spread-requires : tie.Need-spread-requires
 spread-requires c κs = search needs
 
-less-requires : tie.Need-less-requires
-less-requires c κs = search needs
-
-less-requires-2 : tie.Need-less-requires-2
-less-requires-2 c κs = search needs
-
-at-most-requires : tie.Need-at-most-requires
-at-most-requires c κs = search needs
+further-requires : tie.Need-further-requires
+further-requires c κs = search needs
 
 height-requires : tie.Need-height-requires
 height-requires c κs = search needs
 
 ask-pairs-requires : tie.Need-ask-pairs-requires
-ask-pairs-requires c κs = span-fewer _ _ _ _ _ (c .before .before .before .before .before .before .before .spread .ensures .within) (c .before .before .before .before .at-most .ensures)
+ask-pairs-requires c κs = span-fewer _ _ _ _ _ (c .before .before .before .before .before .spread .ensures .within) (c .before .before .before .before .further .ensures)
 
 write-requires : tie.Need-write-requires
-write-requires c κs = span-fewer _ _ _ _ _ (c .before .before .before .before .before .before .before .before .before .before .before .before .before .spread .ensures .within) (c .before .before .before .before .before .before .before .before .before .before .at-most .ensures)
+write-requires c κs = search needs
 
 same-length : tie.Need-same-length
 same-length c = search needs
@@ -42,7 +36,7 @@ same-length-2 : tie.Need-same-length-2
 same-length-2 c = search needs
 
 returns-2 : tie.Need-returns-2
-returns-2 c = λ w e f. extend-done _ _ _ _ _ _ w (c .before .before .before .before .before .before .before .before .before .before .before .before .before .before .before .before .before .before .before .before .before .if1 .left) e _ _ _ _ _ _ _ _ (c .before .before .before .before .before .before .before .before .before .before .before .before .before .before .before .before .before .before .before .left .ensures) (c .before .before .before .before .before .before .before .before .before .before .before .before .before .before .before .before .before .right .ensures) (c .before .before .before .before .before .before .before .before .before .before .before .before .before .before .before .spread .ensures) (c .before .before .before .before .before .before .before .before .before .before .before .before .before .before .less .ensures) (c .before .before .before .before .before .before .before .before .before .before .before .before .before .less2 .ensures) (c .before .before .before .before .before .before .before .before .before .before .before .before .at-most .ensures) (c .before .before .before .before .before .before .before .before .before .before .height .ensures) _ _ (c .before .before .before .before .before .before .before .ask-pairs .ensures) (c .before .write .ensures _ f)
+returns-2 c = λ w e f. extend-done _ _ _ _ _ _ w (c .before .before .before .before .before .before .before .before .before .before .before .before .before .before .before .before .before .before .before .if1 .left) e _ _ _ _ _ _ (c .before .before .before .before .before .before .before .before .before .before .before .before .before .before .before .before .before .left .ensures) (c .before .before .before .before .before .before .before .before .before .before .before .before .before .before .before .right .ensures) (c .before .before .before .before .before .before .before .before .before .before .before .before .before .spread .ensures) (c .before .before .before .before .before .before .before .before .before .before .before .before .further .ensures) (c .before .before .before .before .before .before .before .before .before .before .height .ensures) _ _ (c .before .before .before .before .before .before .before .ask-pairs .ensures) (c .before .write .ensures _ f)
 
 pub extend-spec : {M : Type 1} → statement M
 extend-spec =
@@ -52,9 +46,7 @@ extend-spec =
     left-requires
     right-requires
     spread-requires
-    less-requires
-    less-requires-2
-    at-most-requires
+    further-requires
     height-requires
     ask-pairs-requires
     write-requires

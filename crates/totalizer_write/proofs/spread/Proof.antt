@@ -1,10 +1,10 @@
 -- `spread` counts from what the right maximum leaves of v up to the smaller of v and the left maximum. Assumes nothing.
 use native.Mathlib.Omega.{arith}
 use Prim.Native.Nat.{_<_}
-use Rattle.totalizer.proofs.Pairs.{spread-is}
+use Rattle.totalizer_write.proofs.Pairs.{spread-is}
 use borrow.Author.Needs.{needs}
-use Rattle.totalizer.proofs.spread.Statement.{statement}
-use Rattle.totalizer.proofs.spread.Tie as tie
+use Rattle.totalizer_write.proofs.spread.Statement.{statement}
+use Rattle.totalizer_write.proofs.spread.Tie as tie
 
 maximum-requires : tie.Need-maximum-requires
 maximum-requires c κs = search needs

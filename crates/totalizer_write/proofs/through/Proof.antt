@@ -1,8 +1,8 @@
 -- `through` doubles behind a halving. Assumes nothing.
-use Rattle.totalizer.proofs.Defining.{through-far, through-half, through-whole}
+use Rattle.totalizer_write.proofs.Clauses.{through-far, through-half, through-whole}
 use borrow.Author.Needs.{needs}
-use Rattle.totalizer.proofs.through.Statement.{statement}
-use Rattle.totalizer.proofs.through.Tie as tie
+use Rattle.totalizer_write.proofs.through.Statement.{statement}
+use Rattle.totalizer_write.proofs.through.Tie as tie
 
 returns : tie.Need-returns
 returns c = through-far _ _ (c .before .if1 .taken) (c .if2 .taken)

@@ -1,8 +1,8 @@
 -- `pair_clause` puts what both sides add before the output. Assumes nothing.
-use Rattle.totalizer.proofs.Defining.{clause-stop, clause-done}
+use Rattle.totalizer_write.proofs.Clauses.{clause-stop, clause-done}
 use borrow.Author.Needs.{needs}
-use Rattle.totalizer.proofs.pair_clause.Statement.{statement}
-use Rattle.totalizer.proofs.pair_clause.Tie as tie
+use Rattle.totalizer_write.proofs.pair_clause.Statement.{statement}
+use Rattle.totalizer_write.proofs.pair_clause.Tie as tie
 
 returns : tie.Need-returns
 returns c = λ w e i. clause-stop _ _ _ _ _ _ _ _ w (c .if1 .taken)

@@ -1,0 +1,3 @@
+-- The laws of the list walks, and the order of the refusals.
+pub mod Walk
+pub mod Order

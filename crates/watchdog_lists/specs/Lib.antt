@@ -1,0 +1,2 @@
+-- The words of the literals lent.
+pub mod Literals
