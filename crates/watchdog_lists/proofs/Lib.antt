@@ -1,3 +1,4 @@
 -- The laws of the list walks, and the order of the refusals.
 pub mod Walk
 pub mod Order
+pub mod Determined

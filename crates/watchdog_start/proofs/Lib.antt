@@ -1,0 +1,4 @@
+-- The laws of what start writes.
+pub mod Written
+pub mod Begun
+pub mod Determined

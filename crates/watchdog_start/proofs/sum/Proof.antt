@@ -1,0 +1,53 @@
+-- `sum` has added what stands before i. Assumes nothing.
+use mathlib.Core.Path.{_≡_, refl, sym, ap, _∙_}
+use mathlib.Core.List.{List}
+use Prim.Native.Nat.{_+_, _-_, _≤_}
+use native.Mathlib.Omega.{arith}
+use borrow.Author.Needs.{needs}
+use lib.ListN.{length, take, drop}
+use lib.IntN.{ℤ}
+use Rattle.rules.specs.Lists.{total}
+use Rattle.watchdog_start.proofs.Written.{total-here, total-none, total-few}
+use Rattle.watchdog_start.proofs.sum.Statement.{statement}
+use Rattle.watchdog_start.proofs.sum.Tie as tie
+
+abbrev Inv-loop : tie.InvT-loop
+Inv-loop weights t₀ i₀ t i = (t + total (drop i weights) ≡ total weights) × (i ≤ length weights)
+
+abbrev μ-loop : tie.MeasureT-loop
+μ-loop weights t₀ i₀ t i = length weights - i
+
+loop-holds : tie.Need-loop-holds Inv-loop μ-loop
+loop-holds c = (omega arith, omega arith)
+
+mul-t : tie.Need-mul-t Inv-loop μ-loop
+mul-t c = omega arith
+
+shared-slice-read-t : tie.Need-shared-slice-read-t Inv-loop μ-loop
+shared-slice-read-t c = omega arith
+
+add-t : tie.Need-add-t Inv-loop μ-loop
+add-t c = omega (
+  arith,
+  c .before .before .loop .inv .0,
+  total-here (c .before .before .before .args .weights .now) (c .before .before .loop .i) (c .before .loop-test .taken),
+  total-few (c .before .before .before .args .weights .now) (c .before .before .before .pre .0) (c .before .before .before .pre .1),
+)
+
+add-i : tie.Need-add-i Inv-loop μ-loop
+add-i c = omega arith
+
+loop-less : tie.Need-loop-less Inv-loop μ-loop
+loop-less c = omega arith
+
+loop-again : tie.Need-loop-again Inv-loop μ-loop
+loop-again c = (
+  omega (arith, c .before .before .loop .inv .0, total-here (c .before .before .before .args .weights .now) (c .before .before .loop .i) (c .before .loop-test .taken)),
+  omega arith,
+)
+
+returns : tie.Need-returns Inv-loop μ-loop
+returns c = omega (arith, c .before .loop .inv .0, total-none (c .before .before .args .weights .now) (c .before .loop .i) (c .loop-test .left))
+
+pub sum-spec : {M : Type 1} → statement M
+sum-spec = tie.close (tie.spec Inv-loop μ-loop loop-holds mul-t shared-slice-read-t add-t add-i loop-less loop-again returns)

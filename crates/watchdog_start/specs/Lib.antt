@@ -1,0 +1,2 @@
+-- What start writes.
+pub mod Writing

@@ -1,0 +1,133 @@
+// Start: a build over lent words, or a refusal that writes nothing.
+ghost use mathlib.Core.Path.{_≡_};
+ghost use mathlib.Core.Bool.{true};
+ghost use mathlib.Core.List.{List, []};
+ghost use Prim.Native.Nat.{_≤_};
+ghost use lib.ListN.{length};
+ghost use lib.IntN.{ℤ, pos};
+ghost use Rattle.rules.specs.Lists.{all, total, padded};
+ghost use Rattle.rules.specs.Numbers.{lawful, lawful-weight};
+ghost use Rattle.rules.specs.Records.{imageOf};
+ghost use Rattle.rules.specs.Build.{records, stateOf};
+ghost use Rattle.rules.specs.Start.{new-build, zero-state, start-refusal, start};
+ghost use Rattle.records.specs.Carries.{st, Steps};
+ghost use Rattle.watchdog_start.specs.Writing.{with-more, leaf-records, wait-records, blank-marks, state-with};
+use records::Marks;
+use rules::Answer;
+use rules::Started;
+use rules::State;
+
+// The marks of a store where nothing is used.
+fn blank(first: u32) -> Marks
+    ensures { λ r. ⌜ r ≡ blank-marks first ⌝ }
+{
+    Marks {
+        records: 0,
+        words: 0,
+        fresh: first,
+        clauses: 0,
+        full: false,
+    }
+}
+
+// A leaf for each literal. Linear.
+fn leaves(s: &mut [u32], m: Marks, lits: &[i32]) -> Marks
+    requires { ⌜ all lawful (now lits) ≡ true ⌝ }
+    ensures { λ z. ⌜ ((c : List ℤ) → Steps (st (now (s .entry)) c m) (st (now (s .exit)) c z) (with-more (leaf-records (now (lits .entry))))) ⌝ }
+{
+    let mut z = m;
+    let mut i: usize = 0;
+    while i < lits.len() {
+        let leaf = records_append::leaf(s, z, numbers::word_at(lits, i));
+        z = leaf.marks;
+        i += 1;
+    }
+    z
+}
+
+// Each leaf waiting with its weight. Linear.
+fn waits(s: &mut [u32], m: Marks, weights: &[u64]) -> Marks
+    requires { ⌜ (all lawful-weight (now weights) ≡ true) × (length (now weights) ≤ 256) ⌝ }
+    ensures { λ z. ⌜ ((c : List ℤ) → Steps (st (now (s .entry)) c m) (st (now (s .exit)) c z) (with-more (wait-records (now (weights .entry))))) ⌝ }
+{
+    let mut z = m;
+    let mut i: usize = 0;
+    while i < weights.len() {
+        z = records_append::waiting(s, z, i as u32, weights[i] as u32);
+        i += 1;
+    }
+    z
+}
+
+// The weights added up. Linear.
+fn sum(weights: &[u64]) -> u64
+    requires { ⌜ (all lawful-weight (now weights) ≡ true) × (length (now weights) ≤ 256) ⌝ }
+    ensures { λ r. ⌜ r ≡ total (now (weights .entry)) ⌝ }
+{
+    let mut t: u64 = 0;
+    let mut i: usize = 0;
+    while i < weights.len() {
+        t += weights[i];
+        i += 1;
+    }
+    t
+}
+
+// A state with no tare and no bucket. Constant time.
+fn state(inputs: u32, sum: u64, set: u64, records: usize, first: u32) -> State
+    ensures { λ r. ⌜ r ≡ state-with inputs sum set records first ⌝ }
+{
+    State {
+        inputs,
+        sum,
+        set,
+        built: 0,
+        records,
+        words: 0,
+        clauses: 0,
+        variables: 0,
+        fresh: first,
+        tares: [0; 19],
+        tares_used: 0,
+        buckets: [0; 20],
+        buckets_used: 0,
+    }
+}
+
+// The records of a new build, all other words zeroed, and its state. Linear in the lists and the lent words.
+fn begin(lits: &[i32], weights: &[u64], first: u32, store: &mut [u32], clauses: &mut [i32]) -> State
+    requires { ⌜ start-refusal (now lits) (now weights) first (now store) ≡ 0 ⌝ }
+    ensures state { λ r. ⌜ r ≡ stateOf (new-build (now (lits .entry)) (now (weights .entry)) first) ⌝ }
+    ensures store { λ _. ⌜ now (store .exit) ≡ padded 0 (length (now (store .entry))) (imageOf (records (new-build (now (lits .entry)) (now (weights .entry)) first))) ⌝ }
+    ensures clauses { λ _. ⌜ now (clauses .exit) ≡ padded (pos 0) (length (now (clauses .entry))) [] ⌝ }
+{
+    let m = leaves(store, blank(first), lits);
+    waits(store, m, weights);
+    records::zero_words(store, 16 * lits.len());
+    records::zero_signed(clauses, 0);
+    state(lits.len() as u32, sum(weights), 1, 2 * lits.len(), first)
+}
+
+// Start. Linear in the lists and the lent words, but for the test that no literal stands twice, which is quadratic over at most
+// 256; a refusal reads the lists alone.
+pub fn start(
+    lits: &[i32],
+    weights: &[u64],
+    first: u32,
+    store: &mut [u32],
+    clauses: &mut [i32],
+) -> Started
+    ensures { λ r. ⌜ record { answer = r; store = now (store .exit); clauses = now (clauses .exit) } ≡ start (now (lits .entry)) (now (weights .entry)) first (now (store .entry)) (now (clauses .entry)) ⌝ }
+{
+    let n = watchdog_lists::refusal(lits, weights, first, store);
+    if n == 0 {
+        return Started {
+            answer: Answer::Accepted,
+            state: begin(lits, weights, first, store, clauses),
+        };
+    }
+    Started {
+        answer: Answer::Refused(n),
+        state: state(0, 0, 0, 0, 0),
+    }
+}
