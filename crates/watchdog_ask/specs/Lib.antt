@@ -1,0 +1,2 @@
+-- The weight of a record.
+pub mod Weight
