@@ -1,0 +1,115 @@
+// Starts, good and bad, one a line: the refusal number or 0, then inputs, sum, set divisor, records and next fresh number of the
+// state, every word of the store, every word of the clause buffer as a literal's word. All lent words are 7 before.
+use libc::STDOUT_FILENO;
+use rules::Answer;
+
+fn number(n: u64) {
+    io::write_all(STDOUT_FILENO, b" ");
+    io::print_decimal(STDOUT_FILENO, n);
+}
+
+fn refusal(a: Answer) -> u64 {
+    match a {
+        Answer::Accepted => 0,
+        Answer::Refused(n) => n as u64,
+    }
+}
+
+fn print_words(s: &[u32]) {
+    let mut i: usize = 0;
+    while i < s.len() {
+        number(records::word(s, i) as u64);
+        i += 1;
+    }
+}
+
+fn print_literals(c: &[i32]) {
+    let mut i: usize = 0;
+    while i < c.len() {
+        number(numbers::word_at(c, i) as u64);
+        i += 1;
+    }
+}
+
+fn case(name: &[u8], lits: &[i32], weights: &[u64], first: u32, store: &mut [u32]) {
+    let mut clauses = [7i32; 3];
+    let r = watchdog_start::start(lits, weights, first, store, &mut clauses);
+    io::write_all(STDOUT_FILENO, name);
+    let answer = r.answer;
+    number(refusal(answer));
+    number(r.state.inputs as u64);
+    number(r.state.sum);
+    number(r.state.set);
+    number(r.state.records as u64);
+    number(r.state.fresh as u64);
+    io::write_all(STDOUT_FILENO, b" |");
+    print_words(store);
+    io::write_all(STDOUT_FILENO, b" |");
+    print_literals(&clauses);
+    io::write_all(STDOUT_FILENO, b"\n");
+}
+
+// Two inputs over 33 words, room for four records and a word more.
+fn two(name: &[u8], lits: [i32; 2], weights: [u64; 2], first: u32) {
+    let mut store = [7u32; 33];
+    case(name, &lits, &weights, first, &mut store);
+}
+
+fn lists() {
+    let mut store = [7u32; 9];
+    let mut other = [7u32; 9];
+    let none = [0u64; 0];
+    let no_literal = [0i32; 0];
+    case(b"no inputs:", &no_literal, &none, 1, &mut store);
+    case(b"a literal without a weight:", &[1], &none, 2, &mut other);
+    two(b"two inputs:", [1, -2], [3, 4], 3);
+}
+
+fn literals() {
+    two(b"literal 0:", [0, 2], [1, 1], 3);
+    two(b"variable 1000000001:", [1, 1000000001], [1, 1], 3);
+    two(b"the lowest number:", [-2147483648, 2], [1, 1], 3);
+    two(b"variable 999999999:", [1, -999999999], [1, 1], 1000000000);
+    two(b"a literal twice:", [-5, -5], [1, 1], 6);
+    two(b"x and its negation:", [5, -5], [1, 1], 6);
+}
+
+fn weights() {
+    two(b"weight 0:", [1, 2], [1, 0], 3);
+    two(b"weight 1048576:", [1, 2], [1, 1048576], 3);
+    two(b"weight 2 to the 40:", [1, 2], [1099511627776, 1], 3);
+    two(b"weight 1048575:", [1, 2], [1, 1048575], 3);
+}
+
+fn fresh() {
+    two(b"fresh number 0:", [1, 2], [1, 1], 0);
+    two(b"fresh number 1000000001:", [1, 2], [1, 1], 1000000001);
+    two(b"fresh number an input:", [1, -9], [1, 1], 9);
+    two(b"fresh number 1000000000:", [1, 2], [1, 1], 1000000000);
+}
+
+fn room() {
+    let mut short = [7u32; 31];
+    let mut exact = [7u32; 32];
+    case(b"31 words:", &[1, 2], &[1, 1], 3, &mut short);
+    case(b"32 words:", &[1, 2], &[1, 1], 3, &mut exact);
+}
+
+// The first refusal is given where there are several.
+fn order() {
+    let mut none = [7u32; 1];
+    case(b"1 before 2:", &[0, 0], &[0], 0, &mut none);
+    case(b"2 before 3:", &[0, 0], &[0, 0], 0, &mut none);
+    case(b"3 before 4:", &[1, 1], &[0, 0], 0, &mut none);
+    case(b"4 before 5:", &[1, 2], &[0, 0], 0, &mut none);
+    case(b"5 before 7:", &[1, 2], &[1, 1], 0, &mut none);
+}
+
+fn main() {
+    lists();
+    literals();
+    weights();
+    fresh();
+    room();
+    order();
+}
