@@ -1,0 +1,2 @@
+-- The laws of the tests of buckets.
+pub mod Buckets

@@ -1,0 +1,2 @@
+-- The tests of one bucket.
+pub mod Links

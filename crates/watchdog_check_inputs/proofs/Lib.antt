@@ -1,0 +1,2 @@
+-- The laws of walks over inputs.
+pub mod Inputs

@@ -1,0 +1,2 @@
+-- The steps of the walks over inputs.
+pub mod Steps

@@ -1,0 +1,2 @@
+-- The laws of known kinds.
+pub mod Known

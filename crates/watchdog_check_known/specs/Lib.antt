@@ -1,0 +1,2 @@
+-- The test of the words of one record.
+pub mod Words

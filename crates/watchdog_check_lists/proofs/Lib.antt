@@ -1,0 +1,3 @@
+-- The laws of walks over outputs and waiting entries.
+pub mod Outputs
+pub mod Entries

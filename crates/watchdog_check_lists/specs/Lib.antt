@@ -1,0 +1,2 @@
+-- The steps of walks over outputs and waiting entries.
+pub mod Steps

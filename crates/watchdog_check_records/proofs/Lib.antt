@@ -1,0 +1,2 @@
+-- The laws of the pass over the records.
+pub mod Right

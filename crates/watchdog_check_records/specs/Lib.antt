@@ -1,0 +1,2 @@
+-- The tests that one pass over the records makes.
+pub mod Tests
