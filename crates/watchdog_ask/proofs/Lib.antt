@@ -1,4 +1,10 @@
--- The laws of what waits, of the coarse bound and of a divisor set.
+-- The laws of what waits, of the coarse bound, of a divisor set and of the tares of an answer.
 pub mod Waiting
 pub mod Bound
 pub mod Divisor
+pub mod Bits
+pub mod Back
+pub mod Finish
+pub mod First
+pub mod Answers
+pub mod Whole

@@ -7,7 +7,7 @@ use Rattle.watchdog_ask.proofs.Waiting.{largest-on, largest-end}
 use borrow.Author.Needs.{needs}
 use lib.ListN.{drop}
 use mathlib.Core.List.{List}
-use mathlib.Core.Path.{_≡_, refl}
+use mathlib.Core.Path.{_≡_}
 use native.Mathlib.Omega.{arith}
 use Rattle.watchdog_ask.proofs.largest.Statement.{statement}
 use Rattle.watchdog_ask.proofs.largest.Tie as tie

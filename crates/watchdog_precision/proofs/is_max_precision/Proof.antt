@@ -1,0 +1,26 @@
+-- `is_max_precision` reads a store that is well formed. Assumes nothing.
+use mathlib.Core.Path.{sym, _∙_}
+use borrow.Author.Needs.{needs}
+use borrow.Author.Tests.{not-true, not-false}
+use Rattle.watchdog_precision.proofs.Formed.{formed-stores}
+use Rattle.watchdog_precision.proofs.Answers.{max-refused, max-no, max-yes}
+use Rattle.watchdog_precision.proofs.is_max_precision.Statement.{statement}
+use Rattle.watchdog_precision.proofs.is_max_precision.Tie as tie
+
+well-formed-requires : tie.Need-well-formed-requires
+well-formed-requires c κs = search needs
+
+returns : tie.Need-returns
+returns c = max-refused _ _ _ _ (c .before .well-formed .ensures) (not-true (c .before .well-formed .result) (c .if1 .taken))
+
+some-wait-requires : tie.Need-some-wait-requires
+some-wait-requires c κs = search needs
+
+returns-2 : tie.Need-returns-2
+returns-2 c = max-no _ _ _ _ (c .before .before .before .well-formed .ensures) _ (not-false (c .before .before .before .well-formed .result) (c .before .before .if1 .left)) (c .before .some-wait .ensures _ (formed-stores _ _ _ (sym (c .before .before .before .well-formed .ensures) ∙ not-false (c .before .before .before .well-formed .result) (c .before .before .if1 .left)))) (c .if2 .taken)
+
+returns-3 : tie.Need-returns-3
+returns-3 c = max-yes _ _ _ _ (c .before .before .before .well-formed .ensures) _ (not-false (c .before .before .before .well-formed .result) (c .before .before .if1 .left)) (c .before .some-wait .ensures _ (formed-stores _ _ _ (sym (c .before .before .before .well-formed .ensures) ∙ not-false (c .before .before .before .well-formed .result) (c .before .before .if1 .left)))) (c .if2 .left)
+
+pub is-max-precision-spec : {M : Type 1} → statement M
+is-max-precision-spec = tie.close (tie.spec well-formed-requires returns some-wait-requires returns-2 returns-3)
