@@ -1,4 +1,4 @@
--- The laws of what waits, of the coarse bound, of a divisor set and of the tares of an answer.
+-- The laws of what waits, of the coarse bound, of a divisor set and of what enforce answers.
 pub mod Waiting
 pub mod Bound
 pub mod Divisor
@@ -8,3 +8,4 @@ pub mod Finish
 pub mod First
 pub mod Answers
 pub mod Whole
+pub mod Determined

@@ -1,8 +1,8 @@
 -- The answers of enforce over a state and a store that hold a build. Assumes nothing.
-use mathlib.Core.Path.{_≡_, refl, sym}
+use mathlib.Core.Path.{_≡_, refl, sym, subst}
 use mathlib.Core.Bool.{Bool, true, false, _&&_}
 use mathlib.Core.Option.{some}
-use mathlib.Core.List.{List, map}
+use mathlib.Core.List.{List, [], _∷_, map}
 use Prim.Native.Nat.{ℕ, _/_, _^_, _≤_, _<_}
 use native.Mathlib.Omega.{arith}
 use native.Mathlib.Nat.{le-div-iff-mul-le}
@@ -12,10 +12,14 @@ use lib.Pow.{suc-ones}
 use lib.IntN.{ℤ}
 use Rattle.rules.specs.declared.State.{State}
 use Rattle.rules.specs.Digits.{top-bit}
-use Rattle.rules.specs.Records.{leaf, Output, Record, nodeAt, entries, outputs}
+use Rattle.rules.specs.Records.{leaf, Output, Entry, Record, waiting, nodeAt, entries, outputs}
 use Rattle.rules.specs.Build.{Build, records, tares-of, buckets-of, held, build-over, buildOf, root, largest}
 use Rattle.rules.specs.Enforce.{root-answer, built-answer, one-answer, enforce}
-use Rattle.laws.specs.Facts.{All, All-map, All-second}
+use Rattle.rules.specs.WellFormed.{known}
+use Rattle.laws.specs.Facts.{All, All-map, All-second, All-append, facts-all}
+use Rattle.laws.specs.Words.{image-of-records}
+use Rattle.laws.specs.Whole.{records-length}
+use Rattle.laws.specs.Formed.{WellFormed}
 use Rattle.records.specs.Carries.{Stores}
 use Rattle.watchdog_ask.specs.declared.Answered.{Answered}
 use Rattle.watchdog_ask.specs.Ends.{Ended}
@@ -88,3 +92,27 @@ module _ (s : State) (store : List ℕ) (h : Readable s store) where
             Ended (enforce (buildOf s store) u) c d r
         unfolding buildOf build-over
         ask-more d r y z p = enforce-more (buildOf s store) u c t within e d r y z p
+
+waiting-known : (q : List Entry) → All (λ r. known r ≡ true) (map waiting q)
+unfolding known
+waiting-known [] = tt
+waiting-known (e ∷ q) = (refl, waiting-known q)
+
+-- what is well formed can be read
+pub readable : (s : State) (store : List ℕ) (clauses : List ℤ) → WellFormed s store clauses → Readable s store
+unfolding held buildOf build-over records
+readable s store clauses w =
+    record {
+      stores = record {
+        image-is = sym (image-of-records store (s .records) (facts-all {P = λ r. known r ≡ true} known (λ r e. e) (held s store) all-known));
+        count-is = sym (records-length store (s .records));
+      };
+      laid = w .laid;
+      formed = w .formed;
+    }
+  where
+    all-known : All (λ r. known r ≡ true) (held s store)
+    all-known =
+        subst (All (λ r. known r ≡ true)) (sym (w .laid .waiting-last))
+        (All-append (λ r. known r ≡ true) (buildOf s store .arena .records) (map waiting (entries (held s store))) (w .formed .all-known)
+        (waiting-known (entries (held s store))))

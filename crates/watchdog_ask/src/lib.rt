@@ -1,5 +1,5 @@
-// The answers of the reading calls over a build that is well formed: what waits, the next divisor, a coarse bound, and a divisor
-// set.
+// The answers of the reading calls over a build that is well formed: what waits, the next divisor, a coarse bound, a divisor set,
+// and what enforce answers.
 ghost use mathlib.Core.Path.{_≡_};
 ghost use mathlib.Core.Bool.{cond, not, _&&_};
 ghost use mathlib.Core.Option.{some};

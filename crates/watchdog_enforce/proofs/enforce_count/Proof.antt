@@ -1,0 +1,29 @@
+-- `enforce_count` answers over a build that is well formed. Assumes nothing.
+use mathlib.Core.Path.{ap}
+use mathlib.Core.List.{[]}
+use borrow.Author.Needs.{needs}
+use borrow.Author.Tests.{not-true, not-false}
+use Rattle.watchdog_ask.specs.declared.Answered.{Answered}
+use Rattle.watchdog_ask.specs.Ends.{answered}
+use Rattle.watchdog_enforce.proofs.Ends.{refused, given, readable}
+use Rattle.watchdog_enforce.proofs.enforce_count.Statement.{statement}
+use Rattle.watchdog_enforce.proofs.enforce_count.Tie as tie
+
+well-formed-requires : tie.Need-well-formed-requires
+well-formed-requires c κs = search needs
+
+returns : tie.Need-returns
+returns c = refused _ _ _ _ _ _ (c .before .well-formed .ensures) (not-true (c .before .well-formed .result) (c .if1 .taken))
+
+answer-requires : tie.Need-answer-requires
+answer-requires c κs = readable _ _ _ [] 0 _ (c .before .before .well-formed .ensures) (not-false (c .before .before .well-formed .result) (c .before .if1 .left))
+
+same-length : tie.Need-same-length
+same-length c = search needs
+
+returns-2 : tie.Need-returns-2
+unfolding answered
+returns-2 c = given _ _ _ _ _ _ (c .before .before .before .before .well-formed .ensures) _ _ _ (not-false (c .before .before .before .before .well-formed .result) (c .before .before .before .if1 .left)) (c .before .answer .ensures .0) (ap (λ (a : Answered). a .refusal) (c .before .answer .ensures .1)) (ap (λ (a : Answered). a .count) (c .before .answer .ensures .1))
+
+pub enforce-count-spec : {M : Type 1} → statement M
+enforce-count-spec = tie.close (tie.spec well-formed-requires returns answer-requires same-length returns-2)
