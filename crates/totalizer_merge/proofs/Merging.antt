@@ -9,6 +9,7 @@ use lib.Seq.{length-take-le, take-all}
 use lib.IntN.{ℤ}
 use Rattle.rules.specs.Records.{Record}
 use Rattle.rules.specs.Totalizer.{Arena, joining, add, merge-by, merge}
+use Rattle.laws.specs.Merges.{merge-fuel}
 use Rattle.records.specs.Carries.{St, st, Makes, on-records, with-records}
 use Rattle.records.proofs.Grow.{Grows, grows-self, grows-trans}
 use Rattle.records.proofs.Step.{makes-none, makes-same, makes-then}
@@ -29,25 +30,6 @@ unfolding two
 two-same d g ms rs p q =
     ap (λ (a : List Record × ℕ). add (d (a .0) (drop (length ms / 2) ms) .0) (joining (d (a .0) (drop (length ms / 2) ms) .0) false (a .1) (d (a .0) (drop (length ms / 2) ms) .1))) p ∙
     ap (λ (b : List Record × ℕ). add (b .0) (joining (b .0) false (g rs (take (length ms / 2) ms) .1) (b .1))) (q (g rs (take (length ms / 2) ms) .0))
-
--- any fuel that is enough merges the same
-pub merge-fuel : (f g : ℕ) (rs : List Record) (ms : List ℕ) → length ms ≤ f → length ms ≤ g → merge-by f rs ms ≡ merge-by g rs ms
-unfolding merge-by two
-merge-fuel zero zero rs ms h k = refl
-merge-fuel zero (suc g) rs [] h k = refl
-merge-fuel zero (suc g) rs (m ∷ ms) h k = absurd (omega arith)
-merge-fuel (suc f) zero rs [] h k = refl
-merge-fuel (suc f) zero rs (m ∷ ms) h k = absurd (omega arith)
-merge-fuel (suc f) (suc g) rs [] h k = refl
-merge-fuel (suc f) (suc g) rs (m ∷ []) h k = refl
-merge-fuel (suc f) (suc g) rs (m ∷ m′ ∷ ms) h k =
-    let all : List ℕ = m ∷ m′ ∷ ms in
-    let half : ℕ = length all / 2 in
-    let a : length (take half all) ≡ half = length-take-le half all (omega arith) in
-    let b : length (drop half all) ≡ length all - half = length-drop half all in
-    two-same (merge-by f) (merge-by g) all rs
-    (merge-fuel f g rs (take half all) (omega arith) (omega arith))
-    (λ qs. merge-fuel f g qs (drop half all) (omega arith) (omega arith))
 
 -- a list of two or more
 merge-two : (ms : List ℕ) (rs : List Record) → (length ms ≡ 0 → ⊥) → (length ms ≡ 1 → ⊥) → merge rs ms ≡ two merge ms rs

@@ -4,3 +4,4 @@ pub mod Distinct
 pub mod Clauses
 pub mod Regroup
 pub mod Ways
+pub mod Determined
