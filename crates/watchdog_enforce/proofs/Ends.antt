@@ -9,9 +9,6 @@ use lib.ListN.{length, take, drop}
 use Rattle.rules.specs.declared.State.{State}
 use Rattle.rules.specs.Build.{buildOf}
 use Rattle.rules.specs.WellFormed.{well-formed}
-use Rattle.laws.specs.Whole.{well-formed-facts}
-use Rattle.watchdog_precision.proofs.Formed.{formed-stores}
-use Rattle.watchdog_ask.specs.Read.{Readable}
 use Rattle.rules.specs.Enforce.{EnforceEnd, enforce, enforce-end, refused-end, scratch-short, enforce-ub}
 
 -- the first words of a list before others
@@ -63,12 +60,6 @@ module _ (s : State) (store : List ℕ) (clauses scratch : List ℤ) (u : ℕ) w
     unfolding enforce-ub
     formed e =
         ap (λ (t : Bool). elim t [ true ↦ enforce-end (enforce (buildOf s store) u) scratch | false ↦ refused-end 12 scratch ]) (sym e ∙ test)
-
-    pub readable : b ≡ true → Readable s store
-    readable e =
-        let yes : well-formed s store clauses ≡ true = sym test ∙ e in
-        let facts = well-formed-facts s store clauses yes in
-        record { stores = formed-stores s store clauses yes; laid = facts .laid; formed = facts .formed }
 
     pub refused : b ≡ false →
         (scratch ≡ enforce-ub s store clauses scratch u .scratch) ×

@@ -1,11 +1,12 @@
 -- `enforce_count` answers over a build that is well formed. Assumes nothing.
-use mathlib.Core.Path.{ap}
-use mathlib.Core.List.{[]}
+use mathlib.Core.Path.{sym, ap, _∙_}
 use borrow.Author.Needs.{needs}
 use borrow.Author.Tests.{not-true, not-false}
+use Rattle.laws.specs.Whole.{well-formed-facts}
 use Rattle.watchdog_ask.specs.declared.Answered.{Answered}
 use Rattle.watchdog_ask.specs.Ends.{answered}
-use Rattle.watchdog_enforce.proofs.Ends.{refused, given, readable}
+use Rattle.watchdog_ask.proofs.Whole.{readable}
+use Rattle.watchdog_enforce.proofs.Ends.{refused, given}
 use Rattle.watchdog_enforce.proofs.enforce_count.Statement.{statement}
 use Rattle.watchdog_enforce.proofs.enforce_count.Tie as tie
 
@@ -16,7 +17,7 @@ returns : tie.Need-returns
 returns c = refused _ _ _ _ _ _ (c .before .well-formed .ensures) (not-true (c .before .well-formed .result) (c .if1 .taken))
 
 answer-requires : tie.Need-answer-requires
-answer-requires c κs = readable _ _ _ [] 0 _ (c .before .before .well-formed .ensures) (not-false (c .before .before .well-formed .result) (c .before .if1 .left))
+answer-requires c κs = readable _ _ _ (well-formed-facts _ _ _ (sym (c .before .before .well-formed .ensures) ∙ not-false (c .before .before .well-formed .result) (c .before .if1 .left)))
 
 same-length : tie.Need-same-length
 same-length c = search needs
