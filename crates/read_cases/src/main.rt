@@ -203,6 +203,27 @@ fn line() {
     io::write_all(STDOUT_FILENO, b"\n");
 }
 
+// Enforce at 2, whose answer has two literals, with the part returned, over a scratch of one word and over one of two.
+fn narrow(s: State, store: &[u32], clauses: &[i32]) {
+    let mut scratch = [7i32; 1];
+    let mut refusal: u32 = 7;
+    let part = watchdog_enforce::enforce_ub(s, store, clauses, &mut scratch, 2, &mut refusal);
+    number(part.len() as u64);
+    number(refusal as u64);
+    line();
+}
+
+fn exact(s: State, store: &[u32], clauses: &[i32]) {
+    let mut scratch = [7i32; 2];
+    let mut refusal: u32 = 7;
+    let part = watchdog_enforce::enforce_ub(s, store, clauses, &mut scratch, 2, &mut refusal);
+    number(part.len() as u64);
+    number(numbers::word_at(part, 0) as u64);
+    number(numbers::word_at(part, 1) as u64);
+    number(refusal as u64);
+    line();
+}
+
 // Every call at one bound.
 fn all(s: State, store: &[u32], clauses: &[i32], u: u64) {
     number(u);
@@ -254,6 +275,8 @@ fn main() {
     let short = [0i32; 33];
     let s = state();
     bounds(s, &t, &clauses);
+    narrow(s, &t, &clauses);
+    exact(s, &t, &clauses);
     all(s, &t, &short, 2);
     each(s, &clauses);
 }
