@@ -147,7 +147,7 @@ module _ (b : Build) (f : Formed b) (built : b .built ≢ 0) (reach : b .set ≤
     new-buckets : New (result .0) (result .1)
     unfolding gathered
     new-buckets = record {
-      tower = built-tower b f built reach ahead room;
+      tower = built-tower b f built reach room;
       begins = over-begins (wait b f built reach) (q b f built reach .records) [] (fresh-tares b f built reach ++ own b f built reach) (mss b f built reach);
       count = segment b f built reach;
       leaves = over-keeps (Free fresh′ (outputs (b .arena .records))) (wait b f built reach) (q b f built reach .records) [] (fresh-tares b f built reach ++ own b f built reach) (mss b f built reach) tares-free
@@ -155,7 +155,7 @@ module _ (b : Build) (f : Formed b) (built : b .built ≢ 0) (reach : b .set ≤
     }
 
     some : 1 ≤ length (result .1)
-    some = built-tower b f built reach ahead room .some (omega (arith, held b f built reach ahead))
+    some = built-tower b f built reach room .some (omega (arith, held b f built reach))
 
     formed : Formed (patched b)
     formed = patched-refined b f built reach ahead room .formed

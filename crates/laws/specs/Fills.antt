@@ -23,7 +23,7 @@ use Rattle.laws.specs.Grows.{grown-self}
 use Rattle.laws.specs.Loads.{heavy, load, nodes-of}
 use Rattle.laws.specs.Gathers.{Gathers, top-inside}
 
-getD-empty : (n k : ℕ) → _≡_ {A = List ℕ} (getD (replicate n []) k []) []
+pub getD-empty : (n k : ℕ) → _≡_ {A = List ℕ} (getD (replicate n []) k []) []
 getD-empty zero k = refl
 getD-empty (suc n) zero = refl
 getD-empty (suc n) (suc k) = getD-empty n k
@@ -33,7 +33,7 @@ pub All-empty : (P : ℕ → Type 0) (n : ℕ) → All (λ ms. All P ms) (replic
 All-empty P zero = tt
 All-empty P (suc n) = (tt, All-empty P n)
 
-heavy-most : (g : ℕ → ℕ) (k : ℕ) (e : Entry) → heavy g k e ≤ g (e .node)
+pub heavy-most : (g : ℕ → ℕ) (k : ℕ) (e : Entry) → heavy g k e ≤ g (e .node)
 unfolding heavy
 heavy-most g k e = go (leb (2 ^ k) (e .weight))
   where

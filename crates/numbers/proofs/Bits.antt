@@ -3,7 +3,7 @@ use mathlib.Core.Path.{_≡_, refl, sym, ap, _∙_}
 use Prim.Native.Nat.{ℕ, zero, suc, _+_, _*_, _-_, _/_, _%_, _<_, _≤_, _^_, max}
 use native.Mathlib.Nat.{mod-eq-of-lt, mul-mod-right, pow-succ'}
 use native.Mathlib.Omega.{arith}
-use lib.Pow.{pow-lt, pow-add}
+use lib.Pow.{pow-lt, pow-add, pow-pos}
 use lib.Dec.{eqb}
 use Rattle.rules.specs.Digits.{bit-length, digits, top-bit, power-of-two}
 
@@ -49,8 +49,16 @@ power-over k h =
     let e : k ≡ 64 + (k - 64) = omega arith in
     rw e (sym (ap (λ (n : ℕ). n % 2 ^ 64) (pow-add 2 64 (k - 64)) ∙ mul-mod-right (2 ^ 64) (2 ^ (k - 64))))
 
+-- a power below the 64th fits
+pub power-whole : (k p : ℕ) → k < 64 → p ≡ 2 ^ k % 2 ^ 64 → p ≡ 2 ^ k
+power-whole k p h q = q ∙ mod-eq-of-lt (pow-lt {i = k} {j = 64} h)
+
+-- and is not 0
+pub power-some : (k p : ℕ) → k < 64 → p ≡ 2 ^ k % 2 ^ 64 → 1 ≤ p
+power-some k p h q = omega (arith, power-whole k p h q, pow-pos k)
+
 -- x is compared with the power of its top bit
 pub power-test : (x k p : ℕ) → k ≡ top-bit x → k < 64 → p ≡ 2 ^ k % 2 ^ 64 → eqb p x ≡ power-of-two x
 unfolding power-of-two
 power-test x k p e h q =
-    ap (λ (n : ℕ). eqb n x) (q ∙ (mod-eq-of-lt (pow-lt {i = k} {j = 64} h) ∙ ap (λ (n : ℕ). 2 ^ n) e))
+    ap (λ (n : ℕ). eqb n x) (power-whole k p h q ∙ ap (λ (n : ℕ). 2 ^ n) e)

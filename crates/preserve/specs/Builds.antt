@@ -21,7 +21,7 @@ use Rattle.laws.specs.Facts.{All, All-map, All-first, All-second, All-drop, ris
 use Rattle.laws.specs.Powers.{below-digits, digits-top, top-bit-least, top-bit-below}
 use Rattle.laws.specs.Sorts.{All-sort, length-sort}
 use Rattle.laws.specs.Places.{place, place-inside, leaf-place}
-use Rattle.laws.specs.Formed.{Defined, Taken, variables-of, Unbuilt, Formed}
+use Rattle.laws.specs.Formed.{Sound, Defined, Taken, variables-of, Unbuilt, Formed}
 use Rattle.laws.specs.Grows.{Grown, grown-then, grown-at, grown-outputs, grown-all}
 use Rattle.laws.specs.Gathers.{gathers-waits}
 use Rattle.laws.specs.Fills.{All-empty}
@@ -36,7 +36,7 @@ use Rattle.preserve.specs.Gathered.{begun, Gathered, gathered-made, memb
 split-last : {A : Type 0} (xs : List A) (n : ℕ) (d : A) → length xs ≡ suc n → xs ≡ take n xs ++ (getD xs n d ∷ [])
 split-last xs n d h = sym (take-all (suc n) xs (omega arith)) ∙ take-suc xs n d (omega arith)
 
-module _ (b : Build) (f : Formed b) (z : b .built ≡ 0) (two : 2 ≤ b .inputs) (reach : b .set ≤ largest (b .queue)) (ahead : Ahead b) where
+module _ (b : Build) (f : Formed b) (z : b .built ≡ 0) (two : 2 ≤ b .inputs) (reach : b .set ≤ largest (b .queue)) where
   abbrev p : ℕ
   p = top-bit (b .set)
 
@@ -183,86 +183,92 @@ module _ (b : Build) (f : Formed b) (z : b .built ≡ 0) (two : 2 ≤ b .inputs)
         grown-at base (r .0) (grown-then base (q .records) (r .0) (gathered-first .gathers .grown) (t .grown)) i
         (place-inside base i (leaf-place base i x e))
 
-    -- the build over what stands
-    over : (r : List Record × List ℕ) → Topped (q .records) (q .queue) (suc k) r →
-        Formed (restructured b (b .set) tares (r .1) (q .queue)
-        (record { records = r .0; fresh = b .arena .fresh + length tares; clauses = b .arena .clauses }))
-    unfolding restructured clause-total clause-mark known waits
-    over r t =
-        let g : Grown base (r .0) = grown-then base (q .records) (r .0) (gathered-first .gathers .grown) (t .grown) in
-        let outs : outputs (r .0) ≡ outputs base = grown-outputs base (r .0) g in
-        let ns : List ℕ = map (λ (o : Output). o .number) (outputs base) in
-        let vars : variables-of (nodeAt (r .0)) (b .inputs) ≡ variables-of (nodeAt base) (b .inputs) =
-        variables-same (nodeAt base) (nodeAt (r .0)) (b .inputs) (input-same r t) in
-        let count : length tares ≡ k = rising-length k (b .arena .fresh) in
-        let taken : Taken (variables-of (nodeAt base) (b .inputs)) (b .arena .fresh + k) (ns ++ (tares ++ [])) =
-        taken-tares (variables-of (nodeAt base) (b .inputs)) ns [] (b .arena .fresh) k
-        (subst (λ (t : List ℕ). Taken (variables-of (nodeAt base) (b .inputs)) (b .arena .fresh) (ns ++ t)) (u .no-tare) (f .taken))
-        ahead in
-        let low-set : 1 ≤ b .set = set-positive b f in
-        let weight-few : most ≤ 1048575 = weights-few b f in
-        record {
-          all-known = grown-all (λ r. known r ≡ true) (λ n. refl) base (r .0) g (f .all-known);
-          none-waits = grown-all (λ r. not (waits r) ≡ true) (λ n. refl) base (r .0) g (f .none-waits);
-          first-low = f .first-low;
-          first-high = omega (arith, f .first-high);
-          fresh-few = room;
-          clauses-few = f .clauses-few;
-          inputs-few = f .inputs-few;
-          inputs-first = λ i h. (f .inputs-first i h .0, ap (λ (x : Node). x .kind) (input-same r t i h) ∙ f .inputs-first i h .1);
-          sound = t .standing .sound;
-          defined = subst (λ (os : List Output). Defined (nodeAt (r .0)) (place (r .0)) os) (sym outs)
-              (defined-rises (nodeAt base) (nodeAt (r .0)) (place base) (place (r .0)) (outputs base) (rises-grown base (r .0) g)
-              (f .defined));
-          taken =
-              subst (λ (vs : List ℕ). Taken vs (b .arena .fresh + length tares) (map (λ (o : Output). o .number) (outputs (r .0)) ++ tares))
-              (sym vars)
-              (subst (λ (os : List Output). Taken (variables-of (nodeAt base) (b .inputs)) (b .arena .fresh + length tares)
-              (map (λ (o : Output). o .number) os ++ tares)) (sym outs)
-              (subst (λ (j : ℕ). Taken (variables-of (nodeAt base) (b .inputs)) (b .arena .fresh + j) (ns ++ tares)) (sym count)
-              (subst (λ (t : List ℕ). Taken (variables-of (nodeAt base) (b .inputs)) (b .arena .fresh + k) (ns ++ t)) (append-nil tares)
-              taken)));
-          waiting-are = waits-grown (q .records) (r .0) (q .queue) (t .grown)
-              (gathers-waits base (b .buckets) n most q weight-few (gathered-first .gathers));
-          spares = t .standing .spares;
-          entries-spare = t .free;
-          set-power = f .set-power;
-          if-unbuilt = λ e. absurd (omega arith);
-          if-built = λ ne. record {
-            two = two;
-            power = f .set-power;
-            coarser = omega arith;
-            times-weight = weight;
-            some = t .some;
-            few = omega (arith, t .many, count);
-            linked = t .standing .linked;
-            lefts = t .standing .lefts;
-            below-built = gathered-first .low;
-          };
-        }
-      where
-        weight : b .set * 2 ^ length tares ≤ 524288
-        weight =
-            let count : length tares ≡ k = rising-length k (b .arena .fresh) in
-            let whole : b .set * 2 ^ length tares ≡ 2 ^ top-bit most = ap₂ (λ x y. x * 2 ^ y) (sym set-is) count ∙
-            (sym (pow-add 2 p k) ∙ ap (λ j. 2 ^ j) k-is) in
-            let positive : 1 ≤ most = omega (arith, set-is, pow-pos p) in
-            let low : top-bit most < 20 = top-bit-below 20 most positive (omega (arith, weights-few b f)) in
-            omega (arith, whole, pow-mono {i = top-bit most} {j = 19} (omega arith))
-
-    -- a first build leaves a well formed build
-    pub first-formed : Formed (build-structure b)
-    unfolding build-structure
-    first-formed = over (buckets-over (some-wait (q .queue)) (q .records) [] tares mss) stands
-
-    ahead-over : (r : List Record × List ℕ) → Topped (q .records) (q .queue) (suc k) r →
-        All (λ v. v < b .arena .fresh + length tares) (variables-of (nodeAt (r .0)) (b .inputs))
-    ahead-over r t =
-        subst (λ (vs : List ℕ). All (λ v. v < b .arena .fresh + length tares) vs)
-        (sym (variables-same (nodeAt base) (nodeAt (r .0)) (b .inputs) (input-same r t)))
-        (All-map (λ v (h : v < b .arena .fresh). omega arith) (variables-of (nodeAt base) (b .inputs)) ahead)
-
-    -- its next fresh number is above every input variable
-    pub first-ahead : Ahead (build-structure b)
+    -- its nodes are sound
+    pub first-sound : Sound (nodeAt (build-structure b .arena .records)) (place (build-structure b .arena .records))
     unfolding build-structure restructured
-    first-ahead = ahead-over (buckets-over (some-wait (q .queue)) (q .records) [] tares mss) stands
+    first-sound = stands .standing .sound
+
+    module _ (ahead : Ahead b) where
+      -- the build over what stands
+      over : (r : List Record × List ℕ) → Topped (q .records) (q .queue) (suc k) r →
+          Formed (restructured b (b .set) tares (r .1) (q .queue)
+          (record { records = r .0; fresh = b .arena .fresh + length tares; clauses = b .arena .clauses }))
+      unfolding restructured clause-total clause-mark known waits
+      over r t =
+          let g : Grown base (r .0) = grown-then base (q .records) (r .0) (gathered-first .gathers .grown) (t .grown) in
+          let outs : outputs (r .0) ≡ outputs base = grown-outputs base (r .0) g in
+          let ns : List ℕ = map (λ (o : Output). o .number) (outputs base) in
+          let vars : variables-of (nodeAt (r .0)) (b .inputs) ≡ variables-of (nodeAt base) (b .inputs) =
+          variables-same (nodeAt base) (nodeAt (r .0)) (b .inputs) (input-same r t) in
+          let count : length tares ≡ k = rising-length k (b .arena .fresh) in
+          let taken : Taken (variables-of (nodeAt base) (b .inputs)) (b .arena .fresh + k) (ns ++ (tares ++ [])) =
+          taken-tares (variables-of (nodeAt base) (b .inputs)) ns [] (b .arena .fresh) k
+          (subst (λ (t : List ℕ). Taken (variables-of (nodeAt base) (b .inputs)) (b .arena .fresh) (ns ++ t)) (u .no-tare) (f .taken))
+          ahead in
+          let low-set : 1 ≤ b .set = set-positive b f in
+          let weight-few : most ≤ 1048575 = weights-few b f in
+          record {
+            all-known = grown-all (λ r. known r ≡ true) (λ n. refl) base (r .0) g (f .all-known);
+            none-waits = grown-all (λ r. not (waits r) ≡ true) (λ n. refl) base (r .0) g (f .none-waits);
+            first-low = f .first-low;
+            first-high = omega (arith, f .first-high);
+            fresh-few = room;
+            clauses-few = f .clauses-few;
+            inputs-few = f .inputs-few;
+            inputs-first = λ i h. (f .inputs-first i h .0, ap (λ (x : Node). x .kind) (input-same r t i h) ∙ f .inputs-first i h .1);
+            sound = t .standing .sound;
+            defined = subst (λ (os : List Output). Defined (nodeAt (r .0)) (place (r .0)) os) (sym outs)
+                (defined-rises (nodeAt base) (nodeAt (r .0)) (place base) (place (r .0)) (outputs base) (rises-grown base (r .0) g)
+                (f .defined));
+            taken =
+                subst (λ (vs : List ℕ). Taken vs (b .arena .fresh + length tares) (map (λ (o : Output). o .number) (outputs (r .0)) ++ tares))
+                (sym vars)
+                (subst (λ (os : List Output). Taken (variables-of (nodeAt base) (b .inputs)) (b .arena .fresh + length tares)
+                (map (λ (o : Output). o .number) os ++ tares)) (sym outs)
+                (subst (λ (j : ℕ). Taken (variables-of (nodeAt base) (b .inputs)) (b .arena .fresh + j) (ns ++ tares)) (sym count)
+                (subst (λ (t : List ℕ). Taken (variables-of (nodeAt base) (b .inputs)) (b .arena .fresh + k) (ns ++ t)) (append-nil tares)
+                taken)));
+            waiting-are = waits-grown (q .records) (r .0) (q .queue) (t .grown)
+                (gathers-waits base (b .buckets) n most q weight-few (gathered-first .gathers));
+            spares = t .standing .spares;
+            entries-spare = t .free;
+            set-power = f .set-power;
+            if-unbuilt = λ e. absurd (omega arith);
+            if-built = λ ne. record {
+              two = two;
+              power = f .set-power;
+              coarser = omega arith;
+              times-weight = weight;
+              some = t .some;
+              few = omega (arith, t .many, count);
+              linked = t .standing .linked;
+              lefts = t .standing .lefts;
+              below-built = gathered-first .low;
+            };
+          }
+        where
+          weight : b .set * 2 ^ length tares ≤ 524288
+          weight =
+              let count : length tares ≡ k = rising-length k (b .arena .fresh) in
+              let whole : b .set * 2 ^ length tares ≡ 2 ^ top-bit most = ap₂ (λ x y. x * 2 ^ y) (sym set-is) count ∙
+              (sym (pow-add 2 p k) ∙ ap (λ j. 2 ^ j) k-is) in
+              let positive : 1 ≤ most = omega (arith, set-is, pow-pos p) in
+              let low : top-bit most < 20 = top-bit-below 20 most positive (omega (arith, weights-few b f)) in
+              omega (arith, whole, pow-mono {i = top-bit most} {j = 19} (omega arith))
+
+      -- a first build leaves a well formed build
+      pub first-formed : Formed (build-structure b)
+      unfolding build-structure
+      first-formed = over (buckets-over (some-wait (q .queue)) (q .records) [] tares mss) stands
+
+      ahead-over : (r : List Record × List ℕ) → Topped (q .records) (q .queue) (suc k) r →
+          All (λ v. v < b .arena .fresh + length tares) (variables-of (nodeAt (r .0)) (b .inputs))
+      ahead-over r t =
+          subst (λ (vs : List ℕ). All (λ v. v < b .arena .fresh + length tares) vs)
+          (sym (variables-same (nodeAt base) (nodeAt (r .0)) (b .inputs) (input-same r t)))
+          (All-map (λ v (h : v < b .arena .fresh). omega arith) (variables-of (nodeAt base) (b .inputs)) ahead)
+
+      -- its next fresh number is above every input variable
+      pub first-ahead : Ahead (build-structure b)
+      unfolding build-structure restructured
+      first-ahead = ahead-over (buckets-over (some-wait (q .queue)) (q .records) [] tares mss) stands

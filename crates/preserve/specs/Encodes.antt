@@ -102,8 +102,8 @@ first-ready b f ahead two reached e few =
     let z : b .built ≡ 0 = eqb-true (b .built) 0 e in
     let reach : b .set ≤ largest (b .queue) = ltb-false _ _ (ap (λ (t : Bool). t && ltb (largest (b .queue)) (b .set)) (sym e) ∙ reached) in
     record {
-      formed = first-formed b f z two reach ahead few;
-      ahead = first-ahead b f z two reach ahead few;
+      formed = first-formed b f z two reach few ahead;
+      ahead = first-ahead b f z two reach few ahead;
       is-built = λ q. omega (arith, set-positive b f);
     }
 

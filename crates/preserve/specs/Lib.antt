@@ -10,4 +10,5 @@ pub mod Refinements
 pub mod Encodes
 pub mod Reaches
 pub mod Altered
+pub mod Sounds
 pub mod Sizes

@@ -39,7 +39,7 @@ unfolding some-wait largest
 some-waits [] h = absurd (omega arith)
 some-waits (e ∷ q) h = refl
 
-module _ (b : Build) (f : Formed b) (built : b .built ≢ 0) (reach : b .set ≤ largest (b .queue)) (ahead : Ahead b) where
+module _ (b : Build) (f : Formed b) (built : b .built ≢ 0) (reach : b .set ≤ largest (b .queue)) where
   abbrev pub base : List Record
   base = b .arena .records
 
@@ -236,10 +236,10 @@ module _ (b : Build) (f : Formed b) (built : b .built ≢ 0) (reach : b .set ≤
           ap (λ x. x * 2 ^ length (b .tares)) (sym (pow-add 2 p k) ∙ (ap (λ j. 2 ^ j) (omega (arith, p-end)) ∙ built-is)))) in
           omega (arith, whole, u .times-weight)
 
-      pub formed-over : Formed (restructured b (b .set) (new-tares ++ b .tares) (B ++ lower) (q .queue)
+      pub formed-over : Ahead b → Formed (restructured b (b .set) (new-tares ++ b .tares) (B ++ lower) (q .queue)
           (record { records = R; fresh = old-fresh + length new-tares; clauses = b .arena .clauses }))
       unfolding restructured clause-total clause-mark known waits
-      formed-over =
+      formed-over ahead =
           let outs : outputs R ≡ outputs base = linked-anew .outputs-same ∙ grown-outputs base rs all-grown in
           let ns : List ℕ = map (λ (o : Output). o .number) (outputs base) in
           let vars : variables-of (nodeAt R) (b .inputs) ≡ variables-of (nodeAt base) (b .inputs) =

@@ -93,7 +93,7 @@ encode-sized s store clauses work lo end e h =
 pub first-sized : (b : Build) → Formed b → b .built ≡ 0 → 2 ≤ b .inputs → b .set ≤ largest (b .queue) → Ahead b →
     build-structure b .arena .fresh ≤ 1000000001 → Sized (build-structure b)
 unfolding build-structure restructured
-first-sized b f z two reach ahead few = formed-sized (build-structure b) (first-formed b f z two reach ahead few)
+first-sized b f z two reach ahead few = formed-sized (build-structure b) (first-formed b f z two reach few ahead)
 
 pub patched-sized : (b : Build) → Formed b → b .built ≢ 0 → b .set ≤ largest (b .queue) → Ahead b →
     patched b .arena .fresh ≤ 1000000001 → Sized (patched b)

@@ -10,8 +10,11 @@ use lib.Seq.{getD-take, getD-drop}
 use Rattle.rules.specs.Lists.{same}
 use Rattle.rules.specs.Numbers.{capacity}
 use Rattle.rules.specs.Totalizer.{Arena}
-use Rattle.rules.specs.Records.{Record, unknown, node-of, dummy-node, record-image, reading, recordOf, recordsOf}
+use Rattle.rules.specs.Records.{Node, Record, unknown, node-of, nodeAt, dummy-node, record-image, reading, recordOf, recordsOf}
 use Rattle.laws.specs.Words.{same-true}
+use Rattle.laws.specs.Places.{place, nodeAt-none}
+use Rattle.laws.specs.Formed.{Sound}
+use Rattle.laws.specs.Heights.{heights-below}
 use Rattle.records.specs.Carries.{St, storeOf, bufferOf, written, size, peak, Fits}
 use Rattle.records.proofs.Read.{size-words}
 
@@ -56,3 +59,19 @@ unfolding recordsOf peak
 peak-words s zero h = omega arith
 peak-words s (suc n) h =
     omega (arith, record-small (take 8 s) (front-words s 8 h), peak-words (drop 8 s) n (rest-words s 8 h))
+
+peak-each : (rs : List Record) (k : ℕ) → ((n : ℕ) → size (getD rs n unknown) ≤ k) → peak rs ≤ k
+unfolding peak
+peak-each [] k h = omega arith
+peak-each (r ∷ rs) k h = omega (arith, h 0, peak-each rs k (λ n. h (suc n)))
+
+-- nodes that go by rule are small, as many as have a place
+pub peak-sound : (rs : List Record) → Sound (nodeAt rs) (place rs) → length rs ≤ 4294967296 → peak rs < 4294967296
+unfolding size nodeAt dummy-node
+peak-sound rs sound few = let most : peak rs ≤ 4294967295 = peak-each rs 4294967295 (λ n. go n (place rs n) refl) in omega arith
+  where
+    go : (n : ℕ) (b : Bool) → place rs n ≡ b → size (getD rs n unknown) ≤ 4294967295
+    go n true p = omega (arith, sound n .within, heights-below rs sound n p)
+    go n false p =
+        let none : nodeAt rs n ≡ dummy-node = nodeAt-none rs n p in
+        omega (arith, ap (λ (x : Node). x .maximum) none, ap (λ (x : Node). x .height) none)

@@ -173,3 +173,49 @@ rest-turn σ₀ σ τ f g g′ p q eq r = record {
 
 pub rest-end : (σ₀ σ : St) (f g : Arena → Arena) → ((t : Arena) → g t ≡ t) → Rest σ₀ σ f g → Steps σ₀ σ f
 rest-end σ₀ σ f g eq r = record { go = λ e t h. let x = r .at e t h in subst (Carries e σ) (sym (eq (x .0)) ∙ x .2) (x .1) }
+
+-- A loop that names something: what is left of the work, from here and with what was named, is the whole work -------------------
+
+pub record Left {X Y : Type 0} (σ₀ σ : St) (x : X) (f : Arena → Arena × Y) (g : X → Arena → Arena × Y) : Type 0 where
+  pub at : (e : St) (t : Arena) → Carries e σ₀ t → (u : Arena) × (y : X) × Carries e σ u × (Fits e u → x ≡ y) × (g y u ≡ f t)
+
+pub left-start : {X Y : Type 0} (σ : St) (x : X) (g : X → Arena → Arena × Y) → Left σ σ x (g x) g
+left-start σ x g = record { at = λ e t h. (t, x, h, λ q. refl, refl) }
+
+pub left-turn : {X X′ Y : Type 0} (σ₀ σ τ : St) (x : X) (x′ : X′) (f : Arena → Arena × Y) (g : X → Arena → Arena × Y)
+    (g′ : X′ → Arena → Arena × Y) (p : X → Arena → Arena × X′) → ((y : X) (t : Arena) → Grows t (p y t .0)) → Makes σ τ x′ (p x) →
+    ((y : X) (t : Arena) → g y t ≡ g′ (p y t .1) (p y t .0)) → Left σ₀ σ x f g → Left σ₀ τ x′ f g′
+left-turn {X} {X′} σ₀ σ τ x x′ f g g′ p grows m eq r = record {
+  at = λ e t h. let a = r .at e t h in
+      let c = go e (a .0) (a .1) (a .3) (a .2) (fits-or e (a .0)) in
+      (p (a .1) (a .0) .0, p (a .1) (a .0) .1, c .0, c .1, sym (eq (a .1) (a .0)) ∙ a .4);
+}
+  where
+    go : (e : St) (u : Arena) (y : X) → (Fits e u → x ≡ y) → Carries e σ u → Fits e u ⊎ (Fits e u → ⊥) →
+        Carries e τ (p y u .0) × (Fits e (p y u .0) → x′ ≡ p y u .1)
+    go e u y named h (inl k) =
+        subst (λ (w : X). Carries e τ (p w u .0) × (Fits e (p w u .0) → x′ ≡ p w u .1)) (named k) (m .go e u h)
+    go e u y named h (inr n) = (
+      over e τ (p x u .0) (p y u .0) (m .go e u h .0) (λ k. n (fits-less e u (p x u .0) (grows x u) k)) (λ k. n (fits-less e u (p y u .0) (grows y u) k)),
+      λ k. absurd (n (fits-less e u (p y u .0) (grows y u) k)),
+    )
+
+-- nothing is left
+pub left-end : {X Y : Type 0} (σ₀ σ : St) (x : X) (z : Y) (f : Arena → Arena × Y) (g : X → Arena → Arena × Y) (out : X → Y) → z ≡ out x →
+    ((y : X) (t : Arena) → g y t ≡ (t, out y)) → Left σ₀ σ x f g → Makes σ₀ σ z f
+left-end {X} {Y} σ₀ σ x z f g out is eq r = record {
+  go = λ e t h. let a = r .at e t h in
+      subst (λ (w : Arena × Y). Carries e σ (w .0) × (Fits e (w .0) → z ≡ w .1)) (sym (eq (a .1) (a .0)) ∙ a .4)
+      (a .2, λ k. is ∙ ap out (a .3 k));
+}
+
+-- the room ended on the way
+pub left-full : {X Y : Type 0} (σ₀ σ : St) (x : X) (z : Y) (f : Arena → Arena × Y) (g : X → Arena → Arena × Y) →
+    ((y : X) (t : Arena) → Grows t (g y t .0)) → marksOf σ .full ≡ true → Left σ₀ σ x f g → Makes σ₀ σ z f
+left-full {X} {Y} σ₀ σ x z f g grows k r = record {
+  go = λ e t h. let a = r .at e t h in
+      let nay : Fits e (a .0) → ⊥ = λ q. true≢false (sym k ∙ a .2 .fit q .not-full) in
+      let far : Fits e (g (a .1) (a .0) .0) → ⊥ = λ q. nay (fits-less e (a .0) (g (a .1) (a .0) .0) (grows (a .1) (a .0)) q) in
+      subst (λ (w : Arena × Y). Carries e σ (w .0) × (Fits e (w .0) → z ≡ w .1)) (a .4)
+      (over e σ (a .0) (g (a .1) (a .0) .0) (a .2) nay far, λ q. absurd (far q));
+}

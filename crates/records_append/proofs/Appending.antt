@@ -1,6 +1,6 @@
 -- A record appended where there is room; one law for each way. Assumes nothing.
 use mathlib.Core.Path.{_≡_, refl, sym, ap, ap₂, _∙_, subst}
-use mathlib.Core.Bool.{Bool, true, false, cond}
+use mathlib.Core.Bool.{Bool, true, false, cond, true≢false}
 use mathlib.Core.List.{List, [], _∷_, _++_}
 use Prim.Native.Nat.{ℕ, suc, _+_, _*_, _/_, _≤_, _<_, max}
 use native.Mathlib.Omega.{arith}
@@ -16,7 +16,7 @@ use Rattle.records.proofs.Grow.{Grows, grows-trans, peak-append, records-more, 
 use Rattle.records.proofs.Read.{size-words, maximum-is, height-is}
 use Rattle.records.proofs.Step.{steps-then, steps-same, stop, going, filled, done, carried, held-stores, makes-steps, makes-same, makes-full}
 use Rattle.records.proofs.Entry.{appended, kept-below}
-use Rattle.records_append.specs.Fresh.{with-fresh}
+use Rattle.records_append.specs.Fresh.{with-numbers}
 
 peak-one : (r : Record) → peak (r ∷ []) ≡ size r
 unfolding peak
@@ -196,23 +196,23 @@ module _ (s : List ℕ) (c : List ℤ) (m : Marks) (half : Bool) (l r : ℕ) whe
 
 -- An output -----------------------------------------------------------------------------------------------------------------
 
-pub fresh-grows : (t : Arena) → Grows t (with-fresh t)
-unfolding with-fresh
-fresh-grows t = record { records-grow = omega arith; words-grow = omega arith; fresh-grow = omega arith; sizes-grow = omega arith }
+pub fresh-grows : (k : ℕ) (t : Arena) → Grows t (with-numbers k t)
+unfolding with-numbers
+fresh-grows k t = record { records-grow = omega arith; words-grow = omega arith; fresh-grow = omega arith; sizes-grow = omega arith }
 
-module _ (s : List ℕ) (c : List ℤ) (m : Marks) where
-  pub fresh-stop : m .full ≡ true → Steps (st s c m) (st s c m) with-fresh
-  fresh-stop k = stop (st s c m) with-fresh fresh-grows k
+module _ (s : List ℕ) (c : List ℤ) (m : Marks) (many : ℕ) where
+  pub fresh-stop : m .full ≡ true → Steps (st s c m) (st s c m) (with-numbers many)
+  fresh-stop k = stop (st s c m) (with-numbers many) (fresh-grows many) k
 
   module _ (k : m .full ≡ false) where
-    pub fresh-end : (z : Marks) → z ≡ full-of m → 1000000000 < m .fresh → Steps (st s c m) (st s c z) with-fresh
-    unfolding with-fresh
-    fresh-end z ez i = filled s c m z with-fresh k ez (λ e t h f hd q. omega (arith, hd .fresh-is, q .fresh-fit))
+    pub fresh-end : (z : Marks) → z ≡ full-of m → 1000000001 < m .fresh + many → Steps (st s c m) (st s c z) (with-numbers many)
+    unfolding with-numbers
+    fresh-end z ez i = filled s c m z (with-numbers many) k ez (λ e t h f hd q. omega (arith, hd .fresh-is, q .fresh-fit))
 
-    pub fresh-done : m .fresh ≤ 1000000000 →
-        Steps (st s c m) (st s c (record { records = m .records; words = m .words; fresh = m .fresh + 1; clauses = m .clauses; full = m .full })) with-fresh
-    unfolding with-fresh written
-    fresh-done i = done _ _ with-fresh k (λ e t h f hd. (
+    pub fresh-done : m .fresh + many ≤ 1000000001 →
+        Steps (st s c m) (st s c (record { records = m .records; words = m .words; fresh = m .fresh + many; clauses = m .clauses; full = m .full })) (with-numbers many)
+    unfolding with-numbers written
+    fresh-done i = done _ _ (with-numbers many) k (λ e t h f hd. (
       (
         record { records-fit = f .records-fit; words-fit = f .words-fit; fresh-fit = omega (arith, hd .fresh-is); places-fit = f .places-fit; sizes-fit = f .sizes-fit },
         record {
@@ -231,18 +231,25 @@ module _ (s : List ℕ) (c : List ℤ) (m : Marks) where
       h .kept-store,
     ))
 
+-- marks with the full mark set are full
+pub full-not : (m z : Marks) → z ≡ full-of m → z .full ≡ false → ⊥
+unfolding full-of
+full-not m z e p = true≢false (sym (ap (λ (x : Marks). x .full) e) ∙ p)
+
 output-of : ℕ → ℕ → ℕ → Record
 output-of n v w = output (record { node = n; value = v; number = w })
 
-taken-is : (n v : ℕ) (t : Arena) → with-fresh (with-record (output-of n v (t .fresh)) t) ≡ take-number n v t
-unfolding with-fresh with-record with-records take-number output-of
-taken-is n v t = refl
+taken-is : (n v : ℕ) (t : Arena) → with-numbers 1 (with-record (output-of n v (t .fresh)) t) ≡ take-number n v t
+unfolding with-numbers with-record with-records take-number output-of
+taken-is n v t =
+    let one : t .fresh + 1 ≡ suc (t .fresh) = omega arith in
+    ap (λ (k : ℕ). record { records = t .records ++ (output-of n v (t .fresh) ∷ []); fresh = k; clauses = t .clauses }) one
 
 pub number-grows : (n v : ℕ) (t : Arena) → Grows t (take-number n v t)
 number-grows n v t =
     subst (Grows t) (taken-is n v t)
-    (grows-trans t (with-record (output-of n v (t .fresh)) t) (with-fresh (with-record (output-of n v (t .fresh)) t))
-    (record-grows (output-of n v (t .fresh)) t) (fresh-grows (with-record (output-of n v (t .fresh)) t)))
+    (grows-trans t (with-record (output-of n v (t .fresh)) t) (with-numbers 1 (with-record (output-of n v (t .fresh)) t))
+    (record-grows (output-of n v (t .fresh)) t) (fresh-grows 1 (with-record (output-of n v (t .fresh)) t)))
 
 module _ (s : List ℕ) (c : List ℤ) (m : Marks) (n v : ℕ) where
   pub output-stop : m .full ≡ true → Steps (st s c m) (st s c m) (take-number n v)
@@ -254,7 +261,7 @@ module _ (s : List ℕ) (c : List ℤ) (m : Marks) (n v : ℕ) where
     output-end z ez i = filled s c m z (take-number n v) k ez (λ e t h f hd q. omega (arith, hd .fresh-is, q .fresh-fit))
 
     pub output-done : (τ υ : St) (y : ℕ) → Appends (st s c m) τ y (record { kind = 4; a = n; b = v; c = 2 * m .fresh; maximum = 0; height = 0 }) →
-        Steps τ υ with-fresh → Steps (st s c m) υ (take-number n v)
+        Steps τ υ (with-numbers 1) → Steps (st s c m) υ (take-number n v)
     unfolding record-image literal-word placed output-of
     output-done τ υ y p q = record {
       go = λ e t h.

@@ -1,7 +1,7 @@
--- The next fresh number, taken. Assumes nothing.
-use Prim.Native.Nat.{suc}
+-- Fresh numbers, taken. Assumes nothing.
+use Prim.Native.Nat.{ℕ, _+_}
 use Rattle.rules.specs.Totalizer.{Arena}
 
--- one number more is taken
-unfoldable pub with-fresh : Arena → Arena
-with-fresh t = record { records = t .records; fresh = suc (t .fresh); clauses = t .clauses }
+-- so many numbers more are taken
+unfoldable pub with-numbers : ℕ → Arena → Arena
+with-numbers k t = record { records = t .records; fresh = t .fresh + k; clauses = t .clauses }

@@ -1,14 +1,14 @@
 // A record appended, of each kind, where there is room; else the marks come back with the full mark set.
 ghost use mathlib.Core.Path.{_≡_};
-ghost use mathlib.Core.Bool.{cond};
+ghost use mathlib.Core.Bool.{cond, false};
 ghost use mathlib.Core.List.{List};
-ghost use Prim.Native.Nat.{ℕ, suc, _+_, max};
+ghost use Prim.Native.Nat.{ℕ, suc, _+_, _≤_, max};
 ghost use lib.IntN.{ℤ};
 ghost use Rattle.rules.specs.Records.{Record, Entry, waiting, record-image, literal-word, leaf-node, dummy-node};
 ghost use Rattle.rules.specs.Totalizer.{counts, joining, add, take-number};
 ghost use Rattle.records.specs.Words.{fields};
 ghost use Rattle.records.specs.Carries.{st, Steps, Makes, on-records, with-record, placed};
-ghost use Rattle.records_append.specs.Fresh.{with-fresh};
+ghost use Rattle.records_append.specs.Fresh.{with-numbers};
 use records::Fields;
 use records::Marks;
 
@@ -161,20 +161,21 @@ pub fn join(s: &mut [u32], m: Marks, half: bool, l: u32, r: u32) -> Made
     )
 }
 
-// The next fresh number is taken.
-fn next(m: Marks) -> Marks
-    ensures { λ z. ⌜ ((s : List ℕ) (c : List ℤ) → Steps (st s c m) (st s c z) with-fresh) ⌝ }
+// So many fresh numbers are taken. Constant time.
+pub fn numbers(m: Marks, many: u32) -> Marks
+    ensures { λ z. ⌜ ((s : List ℕ) (c : List ℤ) → Steps (st s c m) (st s c z) (with-numbers many)) ⌝ }
+    ensures within { λ z. ⌜ (z .full ≡ false → m .fresh + many ≤ 1000000001) ⌝ }
 {
     if m.full {
         return m;
     }
-    if 1000000000 < m.fresh {
+    if 1000000001 < (m.fresh as u64) + (many as u64) {
         return records::full(m);
     }
     Marks {
         records: m.records,
         words: m.words,
-        fresh: m.fresh + 1,
+        fresh: m.fresh + many,
         clauses: m.clauses,
         full: m.full,
     }
@@ -203,7 +204,7 @@ pub fn output(s: &mut [u32], m: Marks, node: u32, v: u32) -> Marks
             height: 0,
         },
     );
-    next(z.marks)
+    numbers(z.marks, 1)
 }
 
 // A waiting entry. Constant time.

@@ -8,7 +8,6 @@ use native.Mathlib.Omega.{arith}
 use lib.Dec.{leb, eqb}
 use lib.ListN.{length, take}
 use lib.IntN.{ℤ, pos, negℤ}
-use lib.Pow.{suc-ones}
 use borrow.Author.Tests.{le-leb, lt-leb, eq-eqb, ne-eqb}
 use Rattle.rules.specs.Records.{Kind, leaf, Node, nodeAt, entries, literal-word, word-literal}
 use Rattle.rules.specs.Totalizer.{number-of, literal-of}
@@ -19,7 +18,7 @@ use Rattle.watchdog_ask.specs.declared.Answered.{Answered}
 use Rattle.watchdog_ask.specs.Ends.{Ended}
 use Rattle.watchdog_ask.specs.Read.{Has}
 use Rattle.watchdog_ask.proofs.Finish.{ended-empty, ended-refused}
-use Rattle.watchdog_ask.proofs.Bound.{power-whole}
+use Rattle.numbers.proofs.Bits.{power-whole}
 use Rattle.watchdog_ask.proofs.Back.{used-length}
 
 -- an end of one answer is that of an equal one
@@ -119,9 +118,6 @@ module _ (b : Build) (store : List ℕ) (records : ℕ) (h : Has b store records
   first-is = ap (λ (n : Node). n .kind) (h .node-is 0)
 
 -- the weight of outputs
-pub power-some : (k p : ℕ) → p ≡ 2 ^ k % 2 ^ 64 → k ≤ 19 → 1 ≤ p
-power-some k p e h = omega (arith, suc-ones k, power-whole k p (omega arith) e)
-
 pub weight-is : (b : Build) (xs : List ℕ) (used w : ℕ) → w ≡ 2 ^ used % 2 ^ 64 → used ≤ 19 → length xs ≡ 19 → b .tares ≡ take used xs → w ≡ output-weight b
 unfolding output-weight
 weight-is b xs used w e h l t =

@@ -3,17 +3,13 @@ use mathlib.Core.Path.{_≡_, refl, sym, ap, ap₂, _∙_}
 use mathlib.Core.Bool.{Bool, true, false, cond, _||_}
 use Prim.Native.Nat.{ℕ, suc, _+_, _*_, _-_, _/_, _%_, _^_, _≤_, _<_}
 use native.Mathlib.Omega.{arith}
-use native.Mathlib.Nat.{mod-eq-of-lt, mod-lt, div-add-mod', suc-mul, div-eq-of-eq-mul-left, div-eq-of-lt-le}
-use lib.Pow.{pow-lt}
+use native.Mathlib.Nat.{mod-lt, div-add-mod', suc-mul, div-eq-of-eq-mul-left, div-eq-of-lt-le}
 use lib.Dec.{eqb, ltb}
 use borrow.Author.Tests.{ne-eqb, eq-eqb, le-ltb, lt-ltb}
 use Rattle.rules.specs.Digits.{top-bit}
 use Rattle.rules.specs.Coarse.{coarse-at}
 use Rattle.laws.specs.Facts.{or-right}
-
--- a power below the 64th fits
-pub power-whole : (k p : ℕ) → k < 64 → p ≡ 2 ^ k % 2 ^ 64 → p ≡ 2 ^ k
-power-whole k p h q = q ∙ mod-eq-of-lt (pow-lt {i = k} {j = 64} h)
+use Rattle.numbers.proofs.Bits.{power-whole}
 
 -- one law for each way
 module _ (w u : ℕ) where

@@ -24,8 +24,8 @@ ghost use Rattle.watchdog_ask.specs.Tares.{tare-step};
 ghost use Rattle.watchdog_ask.specs.Ends.{Ended};
 ghost use Rattle.watchdog_ask.specs.Read.{Has, Readable};
 
-// Whether record i is a waiting entry.
-fn waits(store: &[u32], records: usize, i: usize) -> bool
+// Whether record i is a waiting entry. Constant time.
+pub fn waits(store: &[u32], records: usize, i: usize) -> bool
     ensures { λ r. ⌜ ((rs : List Record) → Stores (now (store .entry)) records rs → r ≡ waits (getD rs i unknown)) ⌝ }
 {
     records::field(store, records, i, 0) == 5

@@ -19,14 +19,14 @@ mul-t10 c = search needs
 append-requires : tie.Need-append-requires
 append-requires c κs = search needs
 
-next-requires : tie.Need-next-requires
-next-requires c κs = search needs
+numbers-requires : tie.Need-numbers-requires
+numbers-requires c κs = search needs
 
 same-length : tie.Need-same-length
 same-length c = search needs
 
 returns-3 : tie.Need-returns-3
-returns-3 c = λ b. output-done _ b _ _ _ (c .before .before .before .before .before .before .if1 .left) _ _ _ (c .before .before .before .append .ensures b) (c .next .ensures _ b)
+returns-3 c = λ b. output-done _ b _ _ _ (c .before .before .before .before .before .before .if1 .left) _ _ _ (c .before .before .before .append .ensures b) (c .numbers .ensures .0 _ b)
 
 pub output-spec : {M : Type 1} → statement M
 output-spec =
@@ -37,6 +37,6 @@ output-spec =
     returns-2
     mul-t10
     append-requires
-    next-requires
+    numbers-requires
     same-length
     returns-3)

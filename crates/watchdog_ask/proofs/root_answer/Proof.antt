@@ -1,5 +1,6 @@
 -- `root_answer` asks for the output above the bound's share, and for the tares of what is left of its weight. Assumes nothing.
-use Rattle.watchdog_ask.proofs.Answers.{most-is, found-is, power-some, weight-is, root-empty, root-undefined, root-output}
+use Rattle.watchdog_ask.proofs.Answers.{most-is, found-is, weight-is, root-empty, root-undefined, root-output}
+use Rattle.numbers.proofs.Bits.{power-some}
 use borrow.Author.Needs.{needs}
 use native.Mathlib.Nat.{mod-lt}
 use native.Mathlib.Omega.{arith}
@@ -10,7 +11,7 @@ power-requires : tie.Need-power-requires
 power-requires c κs = search needs
 
 div-j : tie.Need-div-j
-div-j c = omega (arith, power-some _ _ (c .power .ensures) (c .before .before .pre .0))
+div-j c = omega (arith, power-some _ _ (omega (arith, c .before .before .pre .0)) (c .power .ensures))
 
 maximum-requires : tie.Need-maximum-requires
 maximum-requires c κs = search needs
@@ -37,13 +38,13 @@ negated-requires : tie.Need-negated-requires
 negated-requires c κs = search needs
 
 sub-put-answer : tie.Need-sub-put-answer
-sub-put-answer c = omega (arith, power-some _ _ (c .before .before .before .before .before .before .power .ensures) (c .before .before .before .before .before .before .before .before .pre .0))
+sub-put-answer c = omega (arith, power-some _ _ (omega (arith, c .before .before .before .before .before .before .before .before .pre .0)) (c .before .before .before .before .before .before .power .ensures))
 
 rem-put-answer : tie.Need-rem-put-answer
-rem-put-answer c = omega (arith, power-some _ _ (c .before .before .before .before .before .before .power .ensures) (c .before .before .before .before .before .before .before .before .pre .0))
+rem-put-answer c = omega (arith, power-some _ _ (omega (arith, c .before .before .before .before .before .before .before .before .pre .0)) (c .before .before .before .before .before .before .power .ensures))
 
 sub-put-answer-2 : tie.Need-sub-put-answer-2
-sub-put-answer-2 c = omega (arith, mod-lt (c .before .before .before .before .before .before .before .before .args .u) (power-some _ _ (c .before .before .before .before .before .before .power .ensures) (c .before .before .before .before .before .before .before .before .pre .0)))
+sub-put-answer-2 c = omega (arith, mod-lt (c .before .before .before .before .before .before .before .before .args .u) (power-some _ _ (omega (arith, c .before .before .before .before .before .before .before .before .pre .0)) (c .before .before .before .before .before .before .power .ensures)))
 
 put-answer-requires : tie.Need-put-answer-requires
 put-answer-requires c κs = search needs

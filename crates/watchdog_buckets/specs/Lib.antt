@@ -1,0 +1,2 @@
+-- What the promises of the buckets cite.
+pub mod Line

@@ -1,0 +1,2 @@
+-- The laws of a first build.
+pub mod Building

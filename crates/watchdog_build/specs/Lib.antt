@@ -1,0 +1,2 @@
+-- What a first build is handed.
+pub mod Ready

@@ -1,0 +1,3 @@
+-- A well formed build carries itself; the waiting records found.
+pub mod Begin
+pub mod Found

@@ -1,0 +1,3 @@
+-- The laws of extending old outputs.
+pub mod Extending
+pub mod Determined

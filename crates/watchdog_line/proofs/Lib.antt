@@ -1,0 +1,3 @@
+-- The laws of a line.
+pub mod Lines
+pub mod Determined

@@ -1,0 +1,2 @@
+-- What stands where in the work slice.
+pub mod Work

@@ -1,0 +1,2 @@
+-- The laws of values and of entries taken in turn.
+pub mod Turns

@@ -1,0 +1,2 @@
+-- The queue of a build in the work words.
+pub mod Queued

@@ -1,0 +1,2 @@
+-- What linking a bucket anew, and all of them, promises.
+pub mod Linked

@@ -1,0 +1,4 @@
+-- The laws of copying words.
+pub mod Copying
+pub mod Saving
+pub mod Determined

@@ -1,0 +1,2 @@
+-- What copying words, setting buckets aside and putting them back promise.
+pub mod Copies

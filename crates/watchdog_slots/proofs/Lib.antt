@@ -1,0 +1,2 @@
+-- The law of a padded list that grows by one.
+pub mod Slots

@@ -1,0 +1,2 @@
+-- The laws of a tower.
+pub mod Towers

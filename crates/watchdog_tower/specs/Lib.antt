@@ -1,0 +1,2 @@
+-- The rule of a tower.
+pub mod Rule
