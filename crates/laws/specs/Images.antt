@@ -60,7 +60,7 @@ records-more ws (suc n) m =
     (records-more (drop 8 ws) n m ∙
     ap (λ (t : List ℕ). recordsOf (drop 8 ws) n ++ recordsOf t m) (drop-drop (8 * n) 8 ws ∙ ap (λ (k : ℕ). drop k ws) later))
 
-drop-take : (a b : ℕ) (ws : List ℕ) → drop a (take (a + b) ws) ≡ take b (drop a ws)
+pub drop-take : (a b : ℕ) (ws : List ℕ) → drop a (take (a + b) ws) ≡ take b (drop a ws)
 drop-take zero b ws =
     let none : 0 + b ≡ b = omega arith in
     ap (λ (k : ℕ). take k ws) none

@@ -1,2 +1,3 @@
 -- The laws of values and of entries taken in turn.
 pub mod Turns
+pub mod Lasts

@@ -6,7 +6,9 @@ ghost use lib.IntN.{ℤ};
 ghost use lib.ListN.{length};
 ghost use Rattle.rules.specs.Lists.{rising};
 ghost use Rattle.rules.specs.Records.{Record};
-ghost use Rattle.records.specs.Carries.{st, Steps, Stores};
+ghost use Rattle.rules.specs.Build.{Build, root};
+ghost use Rattle.rules.specs.Encode.{encode-outputs};
+ghost use Rattle.records.specs.Carries.{St, st, Fits, Carries, Steps, Stores};
 ghost use Rattle.watchdog_outputs.specs.Values.{values, outputs-of, all-defined};
 ghost use Rattle.watchdog_outputs.specs.Taken.{entries-by, with-waiting};
 use records::Marks;
@@ -105,4 +107,26 @@ pub fn append_waiting(
         k -= 1;
     }
     n
+}
+
+// The root outputs of the range defined, and then what waits appended. A define for each output, linear in the entries.
+pub fn finish(
+    s: &mut [u32],
+    c: &mut [i32],
+    m: Marks,
+    node: u32,
+    tares: u32,
+    lo: u64,
+    end: u64,
+    work: &[u32],
+    a: usize,
+    b: usize,
+    apart: usize,
+    many: usize,
+) -> Marks
+    requires { ⌜ (tares ≤ 19) × (lo < end) × (a ≤ 16384) × (b ≤ 16384) × (apart ≤ 8) × (many ≤ 512) ⌝ }
+    ensures { λ z. ⌜ ((e : St) (p : Build) → Carries e (st (now (s .entry)) (now (c .entry)) m) (p .arena) → (Fits e (p .arena) → (node ≡ root p) × (tares ≡ length (p .tares)) × (entries-by (now (work .entry)) a b apart many ≡ p .queue)) → Carries e (st (now (s .exit)) (now (c .exit)) z) (with-waiting (p .queue) (encode-outputs p lo end .arena))) ⌝ }
+{
+    let n = encode_outputs(s, c, m, node, tares, lo, end);
+    append_waiting(s, n, work, a, b, apart, many)
 }

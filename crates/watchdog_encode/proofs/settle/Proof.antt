@@ -1,0 +1,42 @@
+-- `settle` zeroes from the marks on. Assumes nothing.
+use Rattle.watchdog_encode.proofs.Finals.{all-zero}
+use borrow.Author.Needs.{needs}
+use Rattle.watchdog_encode.proofs.settle.Statement.{statement}
+use Rattle.watchdog_encode.proofs.settle.Tie as tie
+
+mul-zero-words : tie.Need-mul-zero-words
+mul-zero-words c = search needs
+
+zero-words-requires : tie.Need-zero-words-requires
+zero-words-requires c κs = search needs
+
+zero-signed-requires : tie.Need-zero-signed-requires
+zero-signed-requires c κs = search needs
+
+zero-words-requires-2 : tie.Need-zero-words-requires-2
+zero-words-requires-2 c κs = search needs
+
+same-length : tie.Need-same-length
+same-length c = search needs
+
+same-length-2 : tie.Need-same-length-2
+same-length-2 c = search needs
+
+same-length-3 : tie.Need-same-length-3
+same-length-3 c = search needs
+
+returns : tie.Need-returns
+returns c = (c .before .before .before .before .before .before .before .before .before .zero-words .ensures, c .before .before .before .before .before .zero-signed .ensures, all-zero (c .before .before .before .before .before .before .before .before .before .before .before .before .before .args .work .now) _ (c .before .before .zero-words2 .ensures))
+
+pub settle-spec : {M : Type 1} → statement M
+settle-spec =
+    tie.close
+    (tie.spec
+    mul-zero-words
+    zero-words-requires
+    zero-signed-requires
+    zero-words-requires-2
+    same-length
+    same-length-2
+    same-length-3
+    returns)

@@ -1,0 +1,19 @@
+-- `state_after` is the definition. Assumes nothing.
+use mathlib.Core.Path.{refl}
+use Rattle.watchdog_encode.specs.Busy.{stated}
+use borrow.Author.Needs.{needs}
+use Rattle.watchdog_encode.proofs.state_after.Statement.{statement}
+use Rattle.watchdog_encode.proofs.state_after.Tie as tie
+
+sub-t7 : tie.Need-sub-t7
+sub-t7 c = search needs
+
+add-t8 : tie.Need-add-t8
+add-t8 c = search needs
+
+returns : tie.Need-returns
+unfolding stated
+returns c = refl
+
+pub state-after-spec : {M : Type 1} → statement M
+state-after-spec = tie.close (tie.spec sub-t7 add-t8 returns)

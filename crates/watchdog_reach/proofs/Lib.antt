@@ -1,0 +1,5 @@
+-- The laws of what an encode reaches.
+pub mod Reaching
+pub mod Standing
+pub mod Ways
+pub mod Renewed

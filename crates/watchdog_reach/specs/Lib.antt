@@ -1,0 +1,3 @@
+-- What an encode is handed, and what it reaches over the memory it was lent.
+pub mod Starts
+pub mod Reached

@@ -1,0 +1,2 @@
+-- The laws of words set aside and put back.
+pub mod Backs

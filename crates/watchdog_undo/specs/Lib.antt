@@ -1,0 +1,2 @@
+-- What an encode sets aside.
+pub mod Aside
