@@ -31,10 +31,11 @@ use Rattle.laws.specs.Places.{place}
 use Rattle.laws.specs.Formed.{Sound, Rise, Formed}
 use Rattle.preserve.specs.Starts.{Lent, lent, not-first}
 use Rattle.preserve.specs.Encodes.{Accepted, accepted}
+use Rattle.preserve.specs.Sets.{set-to}
 use Rattle.guarantee.specs.Truth.{Assign, holds, member-all}
 use Rattle.guarantee.specs.Meaning.{ClaimedKind, Claimed, Derived, rise-high, lawful-positive}
 use Rattle.guarantee.specs.Answers.{sum-of, Admits}
-use Rattle.guarantee.specs.Worlds.{set-to, Leads, here, then-set, then-encode, World}
+use Rattle.guarantee.specs.Worlds.{Leads, here, then-set, then-encode, World}
 use Rattle.guarantee.specs.Reached.{started-world, leads-world}
 use Rattle.guarantee.specs.Demand3.{demand3, demand3-empty}
 

@@ -11,7 +11,7 @@ use borrow.Author.Tests.{ltb-true, ltb-false, eq-eqb}
 use Rattle.rules.specs.Lists.{in-turn}
 use Rattle.rules.specs.Records.{Kind, leaf, join, dummy, Node, Output, Record, output, nodeAt, outputs}
 use Rattle.rules.specs.Totalizer.{Arena, counts, asks, number-in, number-of, pairs-from, pairs, clause, write, take-number, Define, ask, ask-pair, define-join, define-kind, define}
-use Rattle.laws.specs.Facts.{All, All-map, All-zip, All-append}
+use Rattle.laws.specs.Facts.{All, All-map, All-zip, All-append, map-append}
 use Rattle.laws.specs.Halving.{counts-asks}
 use Rattle.laws.specs.Places.{place, nodes-same, places-same, output-none, outputs-append, outputs-of-outputs, number-in-append}
 use Rattle.laws.specs.Formed.{Ruled, Sound, Rise}
@@ -45,10 +45,6 @@ grown-self s = record {
   more-new = tt;
 }
 
-map-append : (xs ys : List Output) → map output (xs ++ ys) ≡ map output xs ++ map output ys
-map-append [] ys = refl
-map-append (x ∷ xs) ys = ap (λ (rs : List Record). output x ∷ rs) (map-append xs ys)
-
 pub grown-then : (s t u : Arena) → Grown s t → Grown t u → Grown s u
 grown-then s t u f g = record {
   more = f .more ++ g .more;
@@ -56,7 +52,7 @@ grown-then s t u f g = record {
       g .records-are ∙
       (ap (λ (rs : List Record). rs ++ map output (g .more)) (f .records-are) ∙
       (append-assoc (s .records) (map output (f .more)) (map output (g .more)) ∙
-      ap (λ (rs : List Record). s .records ++ rs) (sym (map-append (f .more) (g .more)))));
+      ap (λ (rs : List Record). s .records ++ rs) (sym (map-append output (f .more) (g .more)))));
   said = f .said ++ g .said;
   clauses-are =
       g .clauses-are ∙

@@ -25,6 +25,7 @@ use Rattle.laws.specs.Places.{place, number-in-kept}
 use Rattle.laws.specs.Powers.{top-bit-least}
 use Rattle.laws.specs.Runs.{largest-all}
 use Rattle.laws.specs.Formed.{Sound, Formed, Built, Taken, Linked, variables-of}
+use Rattle.laws.specs.Keeps.{All-places}
 use Rattle.preserve.specs.Starts.{Lent, lent}
 use Rattle.preserve.specs.Given.{taken-positive}
 use Rattle.guarantee.specs.Truth.{Assign, Truths, holds}
@@ -40,11 +41,6 @@ use Rattle.guarantee.specs.Weighing.{WeighsBuilt, WeighsUnbuilt}
 use Rattle.guarantee.specs.Worlds.{Leads, here, World, Follows}
 use Rattle.guarantee.specs.Reached.{started-world, leads-world, leads-follows}
 
--- a fact of every place is one of every element
-all-places : {A : Type 0} (P : A → Type 0) (d : A) (xs : List A) → ((i : ℕ) → i < length xs → P (getD xs i d)) → All P xs
-all-places P d [] h = tt
-all-places P d (x ∷ xs) h = (h 0 (omega arith), all-places P d xs (λ i k. h (suc i) (omega arith)))
-
 once-of : (ts : List ℕ) → ((n : ℕ) → occurs n ts ≤ 1) → Once ts
 once-of [] h = tt
 once-of (t ∷ ts) h = (
@@ -59,7 +55,7 @@ counting xs ws b w n = record {
   sound = f .sound;
   told = w .told;
   root-value = λ t. at-root (b .buckets) (u .some) (u .linked) v-count t (w .if-built n .counts t);
-  inputs-apart = all-places (λ x. All (λ o. natAbs x ≢ o .number) (outputs rs) × All (λ y. natAbs x ≢ y) (b .tares)) (pos 0) xs (λ i h. (
+  inputs-apart = All-places (λ x. All (λ o. natAbs x ≢ o .number) (outputs rs) × All (λ y. natAbs x ≢ y) (b .tares)) (pos 0) xs (λ i h. (
     All-map (λ o k. k .apart i (getD xs i (pos 0)) (w .leaves-are i h)) (outputs rs) (w .told .means .claims),
     All-map (λ y (k : All (λ v. v < y) (variables-of (nodeAt rs) (b .inputs))). λ e.
         let low : natAbs (getD xs i (pos 0)) < y = subst (λ (kd : Kind). variable-of kd < y) (w .leaves-are i h)

@@ -1,7 +1,7 @@
 -- Buckets brought up to date: their outputs keep the clauses of their former pairs. Assumes nothing.
 use mathlib.Core.Path.{_≡_, refl, sym, ap, ap₂, _∙_, subst}
-use mathlib.Core.Logic.{_≢_, _⊎_, inl, inr}
-use mathlib.Core.Bool.{Bool, true, false, cond, _&&_, _||_, false≢true}
+use mathlib.Core.Logic.{_⊎_, inl, inr}
+use mathlib.Core.Bool.{Bool, true, false, cond}
 use mathlib.Core.List.{List, [], _∷_, _++_}
 use Prim.Native.Nat.{ℕ, zero, suc, _+_, _*_, _/_, _≤_, _<_}
 use native.Mathlib.Omega.{arith}
@@ -11,11 +11,11 @@ use borrow.Author.Tests.{eqb-true, eqb-false}
 use Rattle.rules.specs.Records.{Kind, leaf, join, dummy, Node, Output, Record, nodeAt, outputs, left-link, right-link}
 use Rattle.rules.specs.Totalizer.{Arena, counts, asks, number-in, number-of, literal-of, side, clause}
 use Rattle.rules.specs.Refinement.{former-half}
-use Rattle.rules.specs.WellFormed.{above}
-use Rattle.laws.specs.Facts.{All, All-map, All-zip, occurs, occurs-here, occurs-other, occurs-more}
+use Rattle.laws.specs.Facts.{All, All-map, All-zip, occurs, occurs-other}
 use Rattle.laws.specs.Places.{place, join-place}
 use Rattle.laws.specs.Formed.{Ruled, Sound, Rise, Spares, Linked}
 use Rattle.laws.specs.Climbs.{first, Step, Steps, Climbed}
+use Rattle.laws.specs.Patches.{links-apart}
 use Rattle.guarantee.specs.Truth.{Member, member-all, all-members}
 use Rattle.guarantee.specs.Meaning.{literal, ClaimedKind, Claimed, Sides, Pair, Derived, Asked, every, CompleteAt, Claim, Means}
 use Rattle.guarantee.specs.Growing.{join-parts, Keeps, clause-kept, sides-kept}
@@ -24,16 +24,6 @@ use Rattle.guarantee.specs.Defining.{Told}
 -- of the outputs of the buckets B that were numbered before `fresh`, the clauses of former pairs are asked
 abbrev pub former : List Record → List ℕ → ℕ → Asked
 former rs B fresh o b = o .number < fresh → 1 ≤ occurs (o .node) B → b ≤ former-half rs (o .node)
-
-above-occurs : (B : List ℕ) (i n : ℕ) → above B i n ≡ true → 1 ≤ occurs i B
-unfolding above
-above-occurs [] i n e = absurd (false≢true e)
-above-occurs (b ∷ []) i n e = absurd (false≢true e)
-above-occurs (b ∷ c ∷ B) i n e = go (eqb b i) refl (eqb c n) (above-occurs (c ∷ B) i n) e
-  where
-    go : (x : Bool) → eqb b i ≡ x → (y : Bool) → (above (c ∷ B) i n ≡ true → 1 ≤ occurs i (c ∷ B)) → ((x && y) || above (c ∷ B) i n) ≡ true → 1 ≤ occurs i (b ∷ c ∷ B)
-    go true p y ih e = omega (arith, occurs-here i b (c ∷ B) (sym (eqb-true b i p)))
-    go false p y ih e = omega (arith, occurs-more i b (c ∷ B), ih e)
 
 module _ (rs : List Record) (B : List ℕ) (below : ℕ) (sound : Sound (nodeAt rs) (place rs)) (spares : Spares (nodeAt rs) B)
     (below-there : place rs below ≡ true) (below-apart : occurs below B ≡ 0) (R : List Record) (c : Climbed rs B below sound spares below-there below-apart B R)
@@ -96,14 +86,6 @@ module _ (rs : List Record) (B : List ℕ) (below : ℕ) (sound : Sound (nodeAt 
       go zero e = g e
       go (suc k) e = f (omega arith)
 
-  -- what no bucket links is no bucket
-  pub links-apart : (n : ℕ) (half : Bool) (l r : ℕ) → occurs n B ≡ 0 → nodeAt rs n .kind ≡ join half l r → (occurs l B ≡ 0) × (occurs r B ≡ 0)
-  links-apart n half l r o e = (spares n half l r e .0, go (spares n half l r e .1))
-    where
-      go : (occurs r B ≡ 0) ⊎ (above B n r ≡ true) → occurs r B ≡ 0
-      go (inl z) = z
-      go (inr z) = absurd (omega (arith, o, above-occurs B n r z))
-
   number-same : (n v : ℕ) → number-of R n v ≡ number-of rs n v
   unfolding number-of
   number-same n v = ap (λ (os : List Output). number-in os n v) (c .outputs-same)
@@ -123,7 +105,7 @@ module _ (rs : List Record) (B : List ℕ) (below : ℕ) (sound : Sound (nodeAt 
   -- a pair of a node that is no bucket
   pair-same : (n : ℕ) (half : Bool) (l r v : ℕ) (p : ℕ × ℕ) → occurs n B ≡ 0 → nodeAt rs n .kind ≡ join half l r → (Pair rs half l r v p → Pair R half l r v p) × (Pair R half l r v p → Pair rs half l r v p)
   pair-same n half l r v p o e =
-      let (ol, or) = links-apart n half l r o e in
+      let (ol, or) = links-apart (nodeAt rs) B spares n o half l r e in
       (λ q. rw (c .same l ol, c .same r or) q, λ q. rw (c .same l ol, c .same r or) at q)
 
   -- a side that is 0 is left out, whichever node it would be of

@@ -2,7 +2,7 @@
 use mathlib.Core.Path.{_≡_, refl, sym, ap, ap₂, _∙_, subst}
 use mathlib.Core.Logic.{_≢_}
 use mathlib.Core.Bool.{Bool, true, false, not, _&&_}
-use mathlib.Core.List.{List, [], _∷_, _++_, map, zipWith}
+use mathlib.Core.List.{List, [], _∷_, _++_, zipWith}
 use Prim.Native.Nat.{ℕ, zero, suc, _+_, _*_, _-_, _/_, _^_, _≤_, _<_}
 use native.Mathlib.Omega.{arith}
 use lib.Dec.{ltb}
@@ -13,7 +13,7 @@ use Rattle.rules.specs.Lists.{total, rising}
 use Rattle.rules.specs.Numbers.{divisor-of}
 use Rattle.rules.specs.Digits.{top-bit}
 use Rattle.rules.specs.Refusals.{divisor-unlawful}
-use Rattle.rules.specs.Records.{Kind, leaf, join, dummy, Node, Output, Entry, Record, node, nodeAt, node-of, outputs, leaf-node}
+use Rattle.rules.specs.Records.{Kind, leaf, join, dummy, Node, Output, Entry, node, nodeAt, node-of, outputs, leaf-node}
 use Rattle.rules.specs.Totalizer.{Arena}
 use Rattle.rules.specs.Build.{Build, unbuilt}
 use Rattle.rules.specs.Start.{start-refusal, new-build}
@@ -22,8 +22,8 @@ use Rattle.rules.specs.Encode.{encode}
 use Rattle.laws.specs.Facts.{All, All-map}
 use Rattle.laws.specs.Places.{place}
 use Rattle.laws.specs.Formed.{Sound, Rise, Formed}
-use Rattle.preserve.specs.Starts.{Lent, new-formed}
-use Rattle.preserve.specs.Sets.{divisor-power}
+use Rattle.preserve.specs.Starts.{leaves, no-outputs, Lent, new-formed}
+use Rattle.preserve.specs.Sets.{divisor-power, set-to}
 use Rattle.preserve.specs.Reaches.{new-ahead}
 use Rattle.guarantee.specs.Truth.{Truths}
 use Rattle.guarantee.specs.Values.{bit, value, value-leaf}
@@ -31,22 +31,13 @@ use Rattle.guarantee.specs.Meaning.{every, CompleteAt, Claim}
 use Rattle.guarantee.specs.Defining.{Told}
 use Rattle.guarantee.specs.Queues.{waited}
 use Rattle.guarantee.specs.Answers.{sum-of}
-use Rattle.guarantee.specs.Worlds.{set-to, Leads, here, then-set, then-encode, World, Follows, follows-self, follows-then, encode-world, set-world, set-follows}
-
--- the records of a new build
-abbrev leaves : List ℤ → List Record
-leaves xs = map (λ (x : ℤ). node (leaf-node x)) xs
+use Rattle.guarantee.specs.Worlds.{Leads, here, then-set, then-encode, World, Follows, follows-self, follows-then, encode-world, set-world, set-follows}
 
 leaf-at : (xs : List ℤ) (i : ℕ) → i < length xs → nodeAt (leaves xs) i .kind ≡ leaf (getD xs i (pos 0))
 unfolding nodeAt node-of leaf-node
 leaf-at [] i h = absurd (omega arith)
 leaf-at (x ∷ xs) zero h = refl
 leaf-at (x ∷ xs) (suc i) h = leaf-at xs i (omega arith)
-
-no-outputs : (xs : List ℤ) → outputs (leaves xs) ≡ []
-unfolding outputs
-no-outputs [] = refl
-no-outputs (x ∷ xs) = no-outputs xs
 
 leaves-low : (first : ℕ) (xs : List ℤ) → All (λ x. natAbs x < first) xs → (n : ℕ) (x : ℤ) → nodeAt (leaves xs) n .kind ≡ leaf x → natAbs x < first
 unfolding nodeAt node-of leaf-node

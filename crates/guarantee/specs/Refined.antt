@@ -6,7 +6,8 @@ use mathlib.Core.List.{List, [], _∷_, _++_, map, reverse}
 use Prim.Native.Nat.{ℕ, zero, suc, _+_, _*_, _-_, _/_, _^_, _≤_, _<_}
 use native.Mathlib.Omega.{arith}
 use native.Mathlib.Nat.{one-mul, mul-add, mul-assoc}
-use lib.ListN.{length, getD, take, drop, replicate, length-append, length-drop, length-take, length-replicate, take-append-drop}
+use lib.ListN.{length, getD, take, drop, replicate, length-append, length-drop, length-replicate, take-append-drop}
+use lib.Seq.{length-take-le}
 use lib.IntN.{ℤ, pos, natAbs}
 use lib.Pow.{pow-pos, pow-add}
 use Rattle.rules.specs.Lists.{rising, in-turn}
@@ -22,12 +23,13 @@ use Rattle.laws.specs.Powers.{top-bit-least}
 use Rattle.laws.specs.Places.{place, place-inside, join-place}
 use Rattle.laws.specs.Formed.{Sound, Spares, Linked, Built, Formed}
 use Rattle.laws.specs.Grows.{Grown, grown-then, grown-length, grown-at, grown-place, grown-outputs}
-use Rattle.laws.specs.Runs.{all-largest}
+use Rattle.laws.specs.Runs.{some-waits}
 use Rattle.laws.specs.Standings.{Standing, linked-grown, lefts-grown}
 use Rattle.laws.specs.Towers.{Tower}
 use Rattle.laws.specs.Climbs.{climb, relink-climb, linked-joins, Climbed, climbed, Step, Steps}
+use Rattle.laws.specs.Patches.{links-apart}
 use Rattle.preserve.specs.Gathered.{begun, Gathered, gathered-made}
-use Rattle.preserve.specs.Given.{Ahead}
+use Rattle.preserve.specs.Given.{Ahead, waiting-below, buckets-there, buckets-inside}
 use Rattle.preserve.specs.Refines.{built-tower}
 use Rattle.guarantee.specs.Truth.{Truths, Member}
 use Rattle.guarantee.specs.Values.{value, value-leaf, value-dummy, value-join}
@@ -37,18 +39,10 @@ use Rattle.guarantee.specs.Filling.{filled-law}
 use Rattle.guarantee.specs.Chains.{units, tare-sum, tops, tops-length}
 use Rattle.guarantee.specs.Bucketing.{Filled, Inside, counted, over-begins, over-all, tops-begins}
 use Rattle.guarantee.specs.Keeping.{value-stays, told-more}
-use Rattle.guarantee.specs.Patching.{former, moved, either, links-apart, told-moved}
+use Rattle.guarantee.specs.Patching.{former, moved, either, told-moved}
 use Rattle.guarantee.specs.Answers.{sum-of}
 use Rattle.guarantee.specs.Weighing.{values, WeighsBuilt}
 use Rattle.guarantee.specs.Refining.{filled-all, heap-append, lefts, tops-lefts, tops-append, refined-sum}
-
-some-waits : (q : List Entry) → 1 ≤ largest q → some-wait q ≡ true
-unfolding some-wait largest
-some-waits [] h = absurd (omega arith)
-some-waits (e ∷ q) h = refl
-
-all-take : (n : ℕ) (xs : List ℕ) → n ≤ length xs → length (take n xs) ≡ n
-all-take n xs h = length-take n xs ∙ omega arith
 
 module _ (b : Build) (f : Formed b) (built : b .built ≢ 0) (reach : b .set ≤ largest (b .queue)) where
   abbrev pub old : List Record
@@ -76,19 +70,10 @@ module _ (b : Build) (f : Formed b) (built : b .built ≢ 0) (reach : b .set ≤
   p-end = top-bit-least p (b .built) (omega (arith, set-is, u .coarser))
 
   powers : largest (b .queue) < 2 ^ end
-  powers =
-      let positive : 1 ≤ b .built = omega (arith, built-is, pow-pos end) in
-      let low : largest (b .queue) ≤ b .built - 1 = all-largest (b .queue) (b .built - 1) (All-map (λ e (h : e .weight < b .built). omega arith) (b .queue) (u .below-built)) in
-      omega (arith, built-is)
+  powers = waiting-below b f built
 
   pub bucket-joins : All (λ n. (half : Bool) × (l : ℕ) × (r : ℕ) × (nodeAt old n .kind ≡ join half l r)) B
   bucket-joins = linked-joins (nodeAt old) (some-wait (b .queue)) B (u .linked)
-
-  pub buckets-there : All (λ n. place old n ≡ true) B
-  buckets-there = All-map (λ n (half, l, r, k). join-place old n half l r k) B bucket-joins
-
-  buckets-inside : All (λ a. a < length old) B
-  buckets-inside = All-map (place-inside old) B buckets-there
 
   waiting : some-wait (b .queue) ≡ true
   waiting = some-waits (b .queue) (omega (arith, set-is, pow-pos p))
@@ -97,7 +82,7 @@ module _ (b : Build) (f : Formed b) (built : b .built ≢ 0) (reach : b .set ≤
   chain = subst (λ (w : Bool). Linked (nodeAt old) w B) waiting (u .linked)
 
   made : Gathered b end (λ q. Unit {0})
-  made = gathered-made b f end buckets-inside powers reach (λ q. Unit {0}) (λ q ok e h. tt) tt
+  made = gathered-made b f end (buckets-inside b f) powers reach (λ q. Unit {0}) (λ q ok e h. tt) tt
 
   abbrev pub q : Sorting
   q = gathered b end
@@ -171,15 +156,15 @@ module _ (b : Build) (f : Formed b) (built : b .built ≢ 0) (reach : b .set ≤
     begins-all = begins-then old (q .records) rs begins-queue begins
 
     pub chain-rs : Linked (nodeAt rs) true B
-    chain-rs = linked-grown old rs (f .sound) grown true B buckets-there chain
+    chain-rs = linked-grown old rs (f .sound) grown true B (buckets-there b f) chain
 
     pub up : Climbed rs B d (tower .standing .sound) (tower .standing .others) (tower .standing .there .0) (tower .standing .apart .0) B R
     up = climbed rs B d (tower .standing .sound) (tower .standing .others) (tower .standing .there .0) (tower .standing .apart .0) B chain-rs
-        (All-map (grown-place old rs grown) B buckets-there) (All-self B) (lefts-grown old rs (f .sound) grown B buckets-there (u .lefts))
+        (All-map (grown-place old rs grown) B (buckets-there b f)) (All-self B) (lefts-grown old rs (f .sound) grown B (buckets-there b f) (u .lefts))
 
     -- a place past the old records is no bucket
     later : (n : ℕ) → length old ≤ n → occurs n B ≡ 0
-    later n h = occurs-none (λ a. a < length old) n B buckets-inside (λ (k : n < length old). omega arith)
+    later n h = occurs-none (λ a. a < length old) n B (buckets-inside b f) (λ (k : n < length old). omega arith)
 
     module _ (sound : Sound (nodeAt R) (place R)) (t : Truths) where
       abbrev pub g : ℕ → ℕ
@@ -208,7 +193,7 @@ module _ (b : Build) (f : Formed b) (built : b .built ≢ 0) (reach : b .set ≤
           apart : (m : ℕ) (half : Bool) (l r : ℕ) → occurs m B ≡ 0 → nodeAt old m .kind ≡ join half l r → (occurs l B ≡ 0) × (occurs r B ≡ 0)
           apart m half l r o e =
               let e′ : nodeAt rs m .kind ≡ join half l r = ap (λ (nd : Node). nd .kind) (begins-at old rs begins-all m (place-inside old m (join-place old m half l r e))) ∙ e in
-              links-apart rs B d (tower .standing .sound) (tower .standing .others) (tower .standing .there .0) (tower .standing .apart .0) R up chain-rs m half l r o e′
+              links-apart (nodeAt rs) B (tower .standing .others) m o half l r e′
 
       queued : (k : ℕ) → waited g (2 ^ k) (b .queue) ≡ waited (values b t) (2 ^ k) (b .queue)
       queued k = waited-cong g (values b t) (2 ^ k) (b .queue) (zip (b .queue) (f .waiting-are .nodes-wait) (f .entries-spare))
@@ -247,7 +232,7 @@ module _ (b : Build) (f : Formed b) (built : b .built ≢ 0) (reach : b .set ≤
               ap₂ (λ (k : Kind) (xs : List ℕ). left-link k ∷ xs) (kind-later n (omega (arith, a .0, begins-length old (q .records) begins-queue))) (go w (c ∷ bs) (a .1))
 
       all-tops : tops (nodeAt R) wait (B ++ (d ∷ ds)) ≡ lefts (nodeAt old) B ++ tops (nodeAt rs) wait (d ∷ ds)
-      all-tops = tops-append (nodeAt R) wait B d ds ∙ ap₂ (λ (xs ys : List ℕ). xs ++ ys) (lefts-kept B (All-self B) buckets-there) new-tops
+      all-tops = tops-append (nodeAt R) wait B d ds ∙ ap₂ (λ (xs ys : List ℕ). xs ++ ys) (lefts-kept B (All-self B) (buckets-there b f)) new-tops
 
       abbrev pub left : ℕ
       left = length mss - length (d ∷ ds)
@@ -273,7 +258,7 @@ module _ (b : Build) (f : Formed b) (built : b .built ≢ 0) (reach : b .set ≤
             ap (λ (n : ℕ). take n (b .tares)) few
 
         own-count : length own ≡ lo
-        own-count = ap length own-is ∙ all-take lo (b .tares) lo-few
+        own-count = ap length own-is ∙ length-take-le lo (b .tares) lo-few
 
         old-counts : 2 ^ lo * units (map g (lefts (nodeAt old) B)) ≡ sum-of xs ws (b .built) t + 2 ^ lo * tare-sum t (drop lo (b .tares))
         unfolding lo

@@ -18,20 +18,21 @@ use Rattle.rules.specs.Digits.{top-bit}
 use Rattle.rules.specs.Refusals.{divisor-unlawful}
 use Rattle.rules.specs.Records.{Kind, leaf, join, dummy, Node, Output, Entry, Record, node, nodeAt, node-of, outputs, leaf-node}
 use Rattle.rules.specs.Totalizer.{Arena, define-output}
-use Rattle.rules.specs.Build.{Build, restructured, with-arena, clause-total, clause-mark, unbuilt, root, root-node, largest, some-wait}
+use Rattle.rules.specs.Build.{Build, restructured, with-arena, unbuilt, root, root-node, largest, some-wait}
 use Rattle.rules.specs.Buckets.{build-structure}
-use Rattle.rules.specs.Refinement.{due, patched, extend-bucket, merge-structures}
+use Rattle.rules.specs.Refinement.{due, patched, merge-structures}
 use Rattle.rules.specs.Start.{start-refusal, new-build}
 use Rattle.rules.specs.Precision.{divisor-coarser}
 use Rattle.rules.specs.Encode.{prepared, root-values, encode-outputs, nothing-asked, encode, divisor-above}
 use Rattle.laws.specs.Facts.{All, All-map, rising-length, neither}
 use Rattle.laws.specs.Places.{place, place-inside, leaf-place}
 use Rattle.laws.specs.Powers.{top-bit-least}
-use Rattle.laws.specs.Defines.{extend-bucket-keeps, fresh-write, fresh-take}
 use Rattle.laws.specs.Formed.{Sound, Formed, Built}
 use Rattle.preserve.specs.Starts.{Lent, lent, new-formed}
 use Rattle.preserve.specs.Given.{Ahead}
-use Rattle.preserve.specs.Encodes.{Ready, values-within, outputs-formed, first-ready, refined-ready, still-built, encode-fresh}
+use Rattle.preserve.specs.Sets.{set-to, set-formed}
+use Rattle.preserve.specs.Refinements.{merged-fresh}
+use Rattle.preserve.specs.Encodes.{Ready, values-within, outputs-formed, first-ready, refined-ready, still-built, prepared-cases, encode-fresh}
 use Rattle.guarantee.specs.Truth.{Truths, Member}
 use Rattle.guarantee.specs.Values.{value}
 use Rattle.guarantee.specs.Meaning.{every}
@@ -43,22 +44,6 @@ use Rattle.guarantee.specs.Answers.{sum-of}
 use Rattle.guarantee.specs.Weighing.{WeighsUnbuilt, WeighsBuilt, first-begins, first-weighs}
 use Rattle.guarantee.specs.Telling.{first-told, outputs-told}
 use Rattle.guarantee.specs.Renewing.{patched-weighs, patched-outputs, patched-leaf, merged-told}
-
--- the build with another set divisor
-unfoldable pub set-to : Build → ℕ → Build
-set-to b d = record {
-  inputs = b .inputs;
-  sum = b .sum;
-  first = b .first;
-  set = d;
-  built = b .built;
-  tares = b .tares;
-  buckets = b .buckets;
-  queue = b .queue;
-  arena = b .arena;
-  clauses-before = b .clauses-before;
-  words-before = b .words-before;
-}
 
 -- what accepted calls lead to from a build: sets that are neither refused with 8 nor 9, encodes that are neither refused with 10 nor need a
 -- variable above 1,000,000,000
@@ -163,15 +148,6 @@ first-world xs ws b w two above e few =
       if-built = λ n. first-weighs xs ws b (w .formed) z reach (w .if-unbuilt z) (r .formed);
     }
 
--- extending never lowers the next fresh number
-extended-fresh : (old : List Record) (bs : List ℕ) (s : Arena) → s .fresh ≤ in-turn (extend-bucket old) s bs .fresh
-unfolding in-turn
-extended-fresh old bs s = go bs s (omega arith)
-  where
-    go : (bs : List ℕ) (t : Arena) → s .fresh ≤ t .fresh → s .fresh ≤ in-turn (extend-bucket old) t bs .fresh
-    go [] t h = h
-    go (n ∷ bs) t h = go bs (extend-bucket old t n) (extend-bucket-keeps (λ t. s .fresh ≤ t .fresh) (fresh-write (s .fresh)) (fresh-take (s .fresh)) old t n h)
-
 -- refinement
 module _ (xs : List ℤ) (ws : List ℕ) (b : Build) (w : World xs ws b) (two : 2 ≤ b .inputs) (built : b .built ≢ 0) (is-due : due b ≡ true) (few : merge-structures b .arena .fresh ≤ 1000000001) where
   refine-reach : b .set ≤ largest (b .queue)
@@ -180,7 +156,7 @@ module _ (xs : List ℤ) (ws : List ℕ) (b : Build) (w : World xs ws b) (two : 
 
   refine-room : b .arena .fresh + length (rising (top-bit (b .built) - top-bit (b .set)) (b .arena .fresh)) ≤ 1000000001
   unfolding merge-structures with-arena restructured patched
-  refine-room = omega (arith, extended-fresh (b .arena .records) (reverse (b .buckets)) (patched b .arena), few)
+  refine-room = omega (arith, merged-fresh (b .arena .records) (reverse (b .buckets)) (patched b .arena), few)
 
   merged : Grown (patched b .arena) (merge-structures b .arena) × Told every (merge-structures b .arena)
   merged = merged-told b (w .formed) built refine-reach (w .ahead) (w .told) refine-room
@@ -283,21 +259,16 @@ pub record Prepared (xs : List ℤ) (ws : List ℕ) (b c : Build) : Type 0 where
   pub follows : b .built ≢ 0 → Follows b c
 
 pub prepared-world : (xs : List ℤ) (ws : List ℕ) (b : Build) → World xs ws b → 2 ≤ b .inputs → divisor-above b ≡ false → prepared b .arena .fresh ≤ 1000000001 → Prepared xs ws b (prepared b)
-unfolding prepared
-prepared-world xs ws b w two above few = go (unbuilt b) refl (due b) refl few
-  where
-    go : (t : Bool) → unbuilt b ≡ t → (d : Bool) → due b ≡ d →
-        (elim t as (λ x. Build) [ true ↦ build-structure b | false ↦ elim d as (λ x. Build) [ true ↦ merge-structures b | false ↦ b ] ]) .arena .fresh ≤ 1000000001 →
-        Prepared xs ws b (elim t [ true ↦ build-structure b | false ↦ elim d [ true ↦ merge-structures b | false ↦ b ] ])
-    go true e d h few = record {
+prepared-world xs ws b w two above = prepared-cases (λ c. c .arena .fresh ≤ 1000000001 → Prepared xs ws b c) b
+    (λ e few. record {
       world = first-world xs ws b w two above e few;
       is-built = first-ready b (w .formed) (w .ahead) two above e few .is-built;
       follows = λ n. absurd (n (was-unbuilt b e));
-    }
-    go false e true h few =
-        let n : b .built ≢ 0 = still-built b e in
-        record { world = refined-world xs ws b w two n h few; is-built = refined-follows xs ws b w two n h few .still-built; follows = λ m. refined-follows xs ws b w two m h few }
-    go false e false h few = record { world = w; is-built = still-built b e; follows = follows-self b }
+    })
+    (λ e d few.
+    let n : b .built ≢ 0 = still-built b e in
+    record { world = refined-world xs ws b w two n d few; is-built = refined-follows xs ws b w two n d few .still-built; follows = λ m. refined-follows xs ws b w two m d few })
+    (λ e d few. record { world = w; is-built = still-built b e; follows = follows-self b })
 
 -- encode
 pub record Encoded (xs : List ℤ) (ws : List ℕ) (b c : Build) : Type 0 where
@@ -321,41 +292,9 @@ encode-world xs ws b w lo end ten few = go (nothing-asked b lo end) refl ten few
 
 -- set
 pub set-world : (xs : List ℤ) (ws : List ℕ) (b : Build) → World xs ws b → (d : ℕ) → d ≡ 2 ^ top-bit d → (b .built ≢ 0 → d ≤ b .set) → World xs ws (set-to b d)
-unfolding set-to clause-total clause-mark
+unfolding set-to
 set-world xs ws b w d power below = record {
-  formed = record {
-    all-known = f .all-known;
-    none-waits = f .none-waits;
-    first-low = f .first-low;
-    first-high = f .first-high;
-    fresh-few = f .fresh-few;
-    clauses-few = f .clauses-few;
-    inputs-few = f .inputs-few;
-    inputs-first = f .inputs-first;
-    sound = f .sound;
-    defined = f .defined;
-    taken = f .taken;
-    waiting-are = f .waiting-are;
-    spares = f .spares;
-    entries-spare = f .entries-spare;
-    set-power = power;
-    if-unbuilt = λ z.
-        let u = f .if-unbuilt z in
-        record { no-tare = u .no-tare; no-bucket = u .no-bucket; count = u .count; each-waits = u .each-waits; sum-is = u .sum-is };
-    if-built = λ n.
-        let u = f .if-built n in
-        record {
-          two = u .two;
-          power = u .power;
-          coarser = omega (arith, below n, u .coarser);
-          times-weight = u .times-weight;
-          some = u .some;
-          few = u .few;
-          linked = u .linked;
-          lefts = u .lefts;
-          below-built = u .below-built;
-        };
-  };
+  formed = set-formed b d (w .formed) power (λ n. omega (arith, below n, w .formed .if-built n .coarser));
   ahead = w .ahead;
   inputs-are = w .inputs-are;
   leaves-are = w .leaves-are;
@@ -364,9 +303,6 @@ set-world xs ws b w d power below = record {
   if-unbuilt = λ z. record { waits = w .if-unbuilt z .waits };
   if-built = λ n. let v = w .if-built n in record { left-out = v .left-out; left-count = v .left-count; counts = v .counts; rest = v .rest };
 }
-  where
-    f : Formed b
-    f = w .formed
 
 pub set-follows : (b : Build) (d : ℕ) → b .built ≢ 0 → Follows b (set-to b d)
 unfolding set-to root

@@ -1,6 +1,6 @@
 -- Encode appends: what it makes does not depend on the clauses that stand already. So a history that lists all its clauses and the
 -- calls, which list those of one call, meet. Assumes nothing.
-use mathlib.Core.Path.{_≡_, refl, _∙_, ap}
+use mathlib.Core.Path.{_≡_, refl, _∙_, ap, ap₂}
 use mathlib.Core.Bool.{Bool, true, false}
 use mathlib.Core.List.{List, [], _∷_, _++_, map, reverse, append-assoc}
 use Prim.Native.Nat.{ℕ, zero, suc}
@@ -118,29 +118,42 @@ outputs-after cs b lo end =
     (in-turn-after cs (λ s v. define-output s (root b) v) (b .arena) (root-values b lo end)
     (λ s v. define-after cs (nodeAt (s .records) (root b) .height) s (root b) v))
 
+-- a change of a build that no test of encode sees and each of its ways keeps
+module _ (g : Build → Build) (b : Build) where
+  prepared-through : unbuilt (g b) ≡ unbuilt b → due (g b) ≡ due b → build-structure (g b) ≡ g (build-structure b) →
+      merge-structures (g b) ≡ g (merge-structures b) → prepared (g b) ≡ g (prepared b)
+  unfolding prepared
+  prepared-through u d first again =
+      ap₂ (λ (t w : Bool). elim t [ true ↦ build-structure (g b) | false ↦ elim w [ true ↦ merge-structures (g b) | false ↦ g b ] ]) u d ∙
+      go (unbuilt b) (due b)
+    where
+      go : (t w : Bool) →
+          (elim t [ true ↦ build-structure (g b) | false ↦ elim w [ true ↦ merge-structures (g b) | false ↦ g b ] ]) ≡
+          g (elim t [ true ↦ build-structure b | false ↦ elim w [ true ↦ merge-structures b | false ↦ b ] ])
+      go true w = first
+      go false true = again
+      go false false = refl
+
+  encode-through : (lo end : ℕ) → nothing-asked (g b) lo end ≡ nothing-asked b lo end → prepared (g b) ≡ g (prepared b) →
+      encode-outputs (g (prepared b)) lo end ≡ g (encode-outputs (prepared b) lo end) → encode (g b) lo end ≡ g (encode b lo end)
+  unfolding encode
+  encode-through lo end n p o =
+      ap (λ (t : Bool). elim t [ true ↦ g b | false ↦ encode-outputs (prepared (g b)) lo end ]) n ∙ go (nothing-asked b lo end)
+    where
+      go : (t : Bool) →
+          (elim t [ true ↦ g b | false ↦ encode-outputs (prepared (g b)) lo end ]) ≡
+          g (elim t [ true ↦ b | false ↦ encode-outputs (prepared b) lo end ])
+      go true = refl
+      go false = ap (λ (c : Build). encode-outputs c lo end) p ∙ o
+
 prepared-after : (cs : List (List ℤ)) (b : Build) → prepared (earlier cs b) ≡ earlier cs (prepared b)
-unfolding prepared unbuilt due earlier with-arena restructured
-prepared-after cs b = go (unbuilt b) (due b)
-  where
-    go : (t u : Bool) →
-        (elim t [
-          | true ↦ build-structure (earlier cs b)
-          | false ↦ elim u [ true ↦ merge-structures (earlier cs b) | false ↦ earlier cs b ]
-        ]) ≡ earlier cs (elim t [ true ↦ build-structure b | false ↦ elim u [ true ↦ merge-structures b | false ↦ b ] ])
-    go true u = build-after cs b
-    go false true = merge-after cs b
-    go false false = refl
+unfolding unbuilt due earlier with-arena restructured
+prepared-after cs b = prepared-through (earlier cs) b refl refl (build-after cs b) (merge-after cs b)
 
 -- encode appends to the clauses that stand already
 pub encode-after : (cs : List (List ℤ)) (b : Build) (lo end : ℕ) → encode (earlier cs b) lo end ≡ earlier cs (encode b lo end)
-unfolding encode nothing-asked earlier with-arena restructured
-encode-after cs b lo end = go (nothing-asked b lo end)
-  where
-    go : (t : Bool) →
-        (elim t [ true ↦ earlier cs b | false ↦ encode-outputs (prepared (earlier cs b)) lo end ]) ≡
-        earlier cs (elim t [ true ↦ b | false ↦ encode-outputs (prepared b) lo end ])
-    go true = refl
-    go false = ap (λ (c : Build). encode-outputs c lo end) (prepared-after cs b) ∙ outputs-after cs (prepared b) lo end
+unfolding nothing-asked earlier with-arena restructured
+encode-after cs b lo end = encode-through (earlier cs) b lo end refl (prepared-after cs b) (outputs-after cs (prepared b) lo end)
 
 -- the build with other counts of the clauses that stand already
 unfoldable pub recounted : ℕ → ℕ → Build → Build
@@ -159,17 +172,8 @@ recounted clauses words b = record {
 }
 
 prepared-recounted : (n m : ℕ) (b : Build) → prepared (recounted n m b) ≡ recounted n m (prepared b)
-unfolding prepared unbuilt due build-structure merge-structures patched tares-left-out gathered with-arena restructured recounted
-prepared-recounted n m b = go (unbuilt b) (due b)
-  where
-    go : (t u : Bool) →
-        (elim t [
-          | true ↦ build-structure (recounted n m b)
-          | false ↦ elim u [ true ↦ merge-structures (recounted n m b) | false ↦ recounted n m b ]
-        ]) ≡ recounted n m (elim t [ true ↦ build-structure b | false ↦ elim u [ true ↦ merge-structures b | false ↦ b ] ])
-    go true u = refl
-    go false true = refl
-    go false false = refl
+unfolding unbuilt due build-structure merge-structures patched tares-left-out gathered with-arena restructured recounted
+prepared-recounted n m b = prepared-through (recounted n m) b refl refl refl refl
 
 outputs-recounted : (n m : ℕ) (b : Build) (lo end : ℕ) → encode-outputs (recounted n m b) lo end ≡ recounted n m (encode-outputs b lo end)
 unfolding encode-outputs root-values root-node root output-weight with-arena restructured recounted
@@ -177,11 +181,6 @@ outputs-recounted n m b lo end = refl
 
 -- encode does not look at these counts
 pub encode-recounted : (n m : ℕ) (b : Build) (lo end : ℕ) → encode (recounted n m b) lo end ≡ recounted n m (encode b lo end)
-unfolding encode nothing-asked recounted
-encode-recounted n m b lo end = go (nothing-asked b lo end)
-  where
-    go : (t : Bool) →
-        (elim t [ true ↦ recounted n m b | false ↦ encode-outputs (prepared (recounted n m b)) lo end ]) ≡
-        recounted n m (elim t [ true ↦ b | false ↦ encode-outputs (prepared b) lo end ])
-    go true = refl
-    go false = ap (λ (c : Build). encode-outputs c lo end) (prepared-recounted n m b) ∙ outputs-recounted n m (prepared b) lo end
+unfolding nothing-asked recounted
+encode-recounted n m b lo end =
+    encode-through (recounted n m) b lo end refl (prepared-recounted n m b) (outputs-recounted n m (prepared b) lo end)

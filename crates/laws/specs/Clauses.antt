@@ -99,23 +99,22 @@ module _ (rs : List Record) (s : Sound (nodeAt rs) (place rs)) where
       go (join half l r) e = and-true (s n .links-are half l r e .0) (and-true (s n .links-are half l r e .1) refl)
       go dummy e = refl
 
+  by-kind : (n : ℕ) (k : Kind) → nodeAt rs n .kind ≡ k →
+      (nodeAt rs n .maximum ≡ by-rule rs k .maximum) × (nodeAt rs n .height ≡ by-rule rs k .height)
+  unfolding by-rule joining leaf-node dummy-node
+  by-kind n (leaf x) e = (s n .leaf-is x e .1, s n .leaf-is x e .2)
+  by-kind n (join half l r) e = (s n .maximum-is half l r e, s n .height-is half l r e)
+  by-kind n dummy e = (s n .dummy-is e .0, s n .dummy-is e .1)
+
   pub of-sound-heights : heights-right rs ≡ true
-  unfolding heights-right by-rule joining leaf-node dummy-node
-  of-sound-heights = each-nodes (λ n. eqb (n .height) (by-rule rs (n .kind) .height)) rs (λ n. eq-eqb _ _ (go n (nodeAt rs n .kind) refl))
-    where
-      go : (n : ℕ) (k : Kind) → nodeAt rs n .kind ≡ k → nodeAt rs n .height ≡ by-rule rs k .height
-      go n (leaf x) e = s n .leaf-is x e .2
-      go n (join half l r) e = s n .height-is half l r e
-      go n dummy e = s n .dummy-is e .1
+  unfolding heights-right
+  of-sound-heights =
+      each-nodes (λ n. eqb (n .height) (by-rule rs (n .kind) .height)) rs (λ n. eq-eqb _ _ (by-kind n (nodeAt rs n .kind) refl .1))
 
   pub of-sound-maxima : maxima-right rs ≡ true
-  unfolding maxima-right by-rule joining leaf-node dummy-node
-  of-sound-maxima = each-nodes (λ n. eqb (n .maximum) (by-rule rs (n .kind) .maximum)) rs (λ n. eq-eqb _ _ (go n (nodeAt rs n .kind) refl))
-    where
-      go : (n : ℕ) (k : Kind) → nodeAt rs n .kind ≡ k → nodeAt rs n .maximum ≡ by-rule rs k .maximum
-      go n (leaf x) e = s n .leaf-is x e .1
-      go n (join half l r) e = s n .maximum-is half l r e
-      go n dummy e = s n .dummy-is e .0
+  unfolding maxima-right
+  of-sound-maxima =
+      each-nodes (λ n. eqb (n .maximum) (by-rule rs (n .kind) .maximum)) rs (λ n. eq-eqb _ _ (by-kind n (nodeAt rs n .kind) refl .0))
 
   pub of-sound-bounds : maxima-within rs ≡ true
   unfolding maxima-within

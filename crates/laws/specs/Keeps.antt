@@ -6,7 +6,7 @@ use mathlib.Core.List.{List, [], _∷_, _++_, map, reverse, reverse-cons}
 use Prim.Native.Nat.{ℕ, zero, suc, _+_, _≤_, _<_}
 use native.Mathlib.Omega.{arith}
 use lib.Dec.{ltb}
-use lib.ListN.{getD, take}
+use lib.ListN.{length, getD, take}
 use lib.IntN.{ℤ, pos}
 use borrow.Author.Tests.{le-leb, ltb-true, ltb-false}
 use Rattle.rules.specs.Lists.{total, rising}
@@ -116,9 +116,9 @@ unfolding lawful
 lawful-number t low high = and-true (le-leb 1 t low) (le-leb t 1000000000 high)
 
 -- a fact of every element by its place
-pub All-places : {A : Type 0} (P : A → Type 0) (d : A) (xs : List A) → ((k : ℕ) → P (getD xs k d)) → All P xs
+pub All-places : {A : Type 0} (P : A → Type 0) (d : A) (xs : List A) → ((i : ℕ) → i < length xs → P (getD xs i d)) → All P xs
 All-places P d [] h = tt
-All-places P d (x ∷ xs) h = (h 0, All-places P d xs (λ k. h (suc k)))
+All-places P d (x ∷ xs) h = (h 0 (omega arith), All-places P d xs (λ i k. h (suc i) (omega arith)))
 
 -- a fact of every element holds of a part of the list, and in the other order
 pub All-take : {A : Type 0} (P : A → Type 0) (k : ℕ) (xs : List A) → All P xs → All P (take k xs)

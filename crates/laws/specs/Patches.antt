@@ -28,6 +28,15 @@ above-in (b ∷ c ∷ bs) i r e = go (eqb b i) refl (eqb c r) e (above-in (c ∷
     go true p d q ih = omega (arith, occurs-here i b (c ∷ bs) (sym (eqb-true b i p)))
     go false p d q ih = omega (arith, occurs-more i b (c ∷ bs), ih q)
 
+-- a node that is no bucket links none
+pub links-apart : (at : ℕ → Node) (bs : List ℕ) → Spares at bs → (i : ℕ) → occurs i bs ≡ 0 → (half : Bool) (l r : ℕ) →
+    at i .kind ≡ join half l r → (occurs l bs ≡ 0) × (occurs r bs ≡ 0)
+links-apart at bs spares i out half l r k = (spares i half l r k .0, go (spares i half l r k .1))
+  where
+    go : (occurs r bs ≡ 0) ⊎ (above bs i r ≡ true) → occurs r bs ≡ 0
+    go (inl e) = e
+    go (inr e) = absurd (omega (arith, out, above-in bs i r e))
+
 above-later : (bs cs : List ℕ) (i r : ℕ) → above cs i r ≡ true → above (bs ++ cs) i r ≡ true
 above-later [] cs i r e = e
 above-later (b ∷ bs) cs i r e = above-cons b i r (bs ++ cs) (above-later bs cs i r e)
@@ -98,13 +107,8 @@ module _ (rs : List Record) (wait : Bool) (B : List ℕ) (d : ℕ) (ds : List �
           let (next, step, up) = ih (omega (arith, h, occurs-other i b bs (eqb-false i b e))) in
           (next, step, above-cons b i next (bs ++ lower) up)
 
-  -- a node that is no bucket links none
   outside : (i : ℕ) → occurs i B ≡ 0 → (half : Bool) (l r : ℕ) → nodeAt rs i .kind ≡ join half l r → (occurs l B ≡ 0) × (occurs r B ≡ 0)
-  outside i out half l r k = (new .others i half l r k .0, go (new .others i half l r k .1))
-    where
-      go : (occurs r B ≡ 0) ⊎ (above B i r ≡ true) → occurs r B ≡ 0
-      go (inl e) = e
-      go (inr e) = absurd (omega (arith, out, above-in B i r e))
+  outside = links-apart (nodeAt rs) B (new .others)
 
   all-sound : (i : ℕ) (n : ℕ) → occurs i B ≡ n → Ruled (nodeAt R) (place R) (nodeAt R i)
   all-sound i zero out =
@@ -131,6 +135,14 @@ module _ (rs : List Record) (wait : Bool) (B : List ℕ) (d : ℕ) (ds : List �
       ((half : Bool) (l r : ℕ) → nodeAt rs b .kind ≡ join half l r → nodeAt R r ≡ nodeAt rs r)) lower
   lower-same = All-map (λ b out. (done .same b out, (λ half l r k. done .same r (outside b out half l r k .1)))) lower (new .apart)
 
+  -- a left link that stays and names no bucket keeps its maximum
+  left-kept : (b : ℕ) → left-link (nodeAt R b .kind) ≡ left-link (nodeAt rs b .kind) → occurs (left-link (nodeAt rs b .kind)) B ≡ 0 →
+      nodeAt rs (left-link (nodeAt rs b .kind)) .maximum ≤ 257 → nodeAt R (left-link (nodeAt R b .kind)) .maximum ≤ 257
+  left-kept b same out most =
+      let is : nodeAt R (left-link (nodeAt R b .kind)) ≡ nodeAt rs (left-link (nodeAt rs b .kind)) =
+      ap (nodeAt R) same ∙ done .same (left-link (nodeAt rs b .kind)) out in
+      rw is most
+
   lower-lefts : (bs : List ℕ) → All (λ b. occurs b B ≡ 0) bs →
       All (λ b. (half : Bool) × (l : ℕ) × (r : ℕ) × (nodeAt rs b .kind ≡ join half l r)) bs →
       All (λ b. nodeAt rs (left-link (nodeAt rs b .kind)) .maximum ≤ 257) bs →
@@ -138,13 +150,11 @@ module _ (rs : List Record) (wait : Bool) (B : List ℕ) (d : ℕ) (ds : List �
   unfolding left-link
   lower-lefts [] out joins h = tt
   lower-lefts (b ∷ bs) out joins h =
-      let (half, l, r, k) = joins .0 in
-      let left-out : occurs (left-link (nodeAt rs b .kind)) B ≡ 0 = ap (λ (x : Kind). occurs (left-link x) B) k ∙
-      outside b (out .0) half l r k .0 in
-      let is : nodeAt R (left-link (nodeAt R b .kind)) ≡ nodeAt rs (left-link (nodeAt rs b .kind)) =
-      ap (λ (x : Node). nodeAt R (left-link (x .kind))) (done .same b (out .0)) ∙ done .same (left-link (nodeAt rs b .kind)) left-out in
-      let most : nodeAt rs (left-link (nodeAt rs b .kind)) .maximum ≤ 257 = h .0 in
-      (rw is most, lower-lefts bs (out .1) (joins .1) (h .1))
+      let (half, l, r, k) = joins .0 in (
+        left-kept b (ap (λ (x : Node). left-link (x .kind)) (done .same b (out .0)))
+            (ap (λ (x : Kind). occurs (left-link x) B) k ∙ outside b (out .0) half l r k .0) (h .0),
+        lower-lefts bs (out .1) (joins .1) (h .1),
+      )
 
   old-lefts : (bs : List ℕ) → Steps rs B d (new .sound) (new .others) (new .there .0) (new .apart .0) R bs →
       All (λ b. (half : Bool) × (l : ℕ) × (r : ℕ) × (nodeAt rs b .kind ≡ join half l r)) bs →
@@ -152,13 +162,10 @@ module _ (rs : List Record) (wait : Bool) (B : List ℕ) (d : ℕ) (ds : List �
       All (λ b. nodeAt R (left-link (nodeAt R b .kind)) .maximum ≤ 257) bs
   unfolding left-link
   old-lefts [] s joins h = tt
-  old-lefts (b ∷ bs) s joins h =
-      let l : ℕ = left-link (nodeAt rs b .kind) in
-      let is : nodeAt R (left-link (nodeAt R b .kind)) ≡ nodeAt rs l =
-      ap (λ (x : Kind). nodeAt R (left-link x)) (s .0 .kind-is) ∙
-      done .same l (left-apart rs B d (new .sound) (new .others) (new .there .0) (new .apart .0) b (joins .0)) in
-      let most : nodeAt rs l .maximum ≤ 257 = h .0 in
-      (rw is most, old-lefts bs (s .1) (joins .1) (h .1))
+  old-lefts (b ∷ bs) s joins h = (
+    left-kept b (ap left-link (s .0 .kind-is)) (left-apart rs B d (new .sound) (new .others) (new .there .0) (new .apart .0) b (joins .0)) (h .0),
+    old-lefts bs (s .1) (joins .1) (h .1),
+  )
 
   all-spares : (i : ℕ) (n : ℕ) → occurs i B ≡ n → (half : Bool) (l r : ℕ) → nodeAt R i .kind ≡ join half l r → (occurs l (B ++ lower) ≡ 0) ×
       ((occurs r (B ++ lower) ≡ 0) ⊎ (above (B ++ lower) i r ≡ true))

@@ -41,24 +41,22 @@ pub nodeAt-none : (rs : List Record) (n : ℕ) → place rs n ≡ false → node
 unfolding place nodeAt
 nodeAt-none rs n e = node-of-none (getD rs n unknown) e
 
--- so where a join or a leaf stands is a node
-pub join-place : (rs : List Record) (n : ℕ) (half : Bool) (l r : ℕ) → nodeAt rs n .kind ≡ join half l r → place rs n ≡ true
+-- so where no dummy is read a node stands
+other-place : (rs : List Record) (n : ℕ) → is-dummy (nodeAt rs n .kind) ≡ false → place rs n ≡ true
 unfolding dummy-node is-dummy
-join-place rs n half l r e = go (place rs n) refl
+other-place rs n e = go (place rs n) refl
   where
     go : (b : Bool) → place rs n ≡ b → place rs n ≡ true
     go true p = p
-    go false p =
-        absurd (false≢true (sym (ap is-dummy e) ∙ ap (λ (x : Node). is-dummy (x .kind)) (nodeAt-none rs n p)))
+    go false p = absurd (false≢true (sym e ∙ ap (λ (x : Node). is-dummy (x .kind)) (nodeAt-none rs n p)))
+
+pub join-place : (rs : List Record) (n : ℕ) (half : Bool) (l r : ℕ) → nodeAt rs n .kind ≡ join half l r → place rs n ≡ true
+unfolding is-dummy
+join-place rs n half l r e = other-place rs n (ap is-dummy e)
 
 pub leaf-place : (rs : List Record) (n : ℕ) (x : ℤ) → nodeAt rs n .kind ≡ leaf x → place rs n ≡ true
-unfolding dummy-node is-dummy
-leaf-place rs n x e = go (place rs n) refl
-  where
-    go : (b : Bool) → place rs n ≡ b → place rs n ≡ true
-    go true p = p
-    go false p =
-        absurd (false≢true (sym (ap is-dummy e) ∙ ap (λ (x : Node). is-dummy (x .kind)) (nodeAt-none rs n p)))
+unfolding is-dummy
+leaf-place rs n x e = other-place rs n (ap is-dummy e)
 
 -- earlier places are as they were when records are appended
 pub nodeAt-append : (rs xs : List Record) (n : ℕ) → n < length rs → nodeAt (rs ++ xs) n ≡ nodeAt rs n
@@ -90,25 +88,23 @@ getD-none [] (x ∷ xs) (suc n) h i = getD-none [] xs n (h .1) (omega arith)
 getD-none (r ∷ rs) xs zero h i = absurd (omega arith)
 getD-none (r ∷ rs) xs (suc n) h i = getD-none rs xs n h (omega arith)
 
+same-over : {B : Type 0} (f : Record → B) → ((r : Record) → is-node r ≡ false → f r ≡ f unknown) → (rs xs : List Record) →
+    All (λ r. is-node r ≡ false) xs → (n : ℕ) → f (getD (rs ++ xs) n unknown) ≡ f (getD rs n unknown)
+same-over f none rs xs h n = go (ltb n (length rs)) refl
+  where
+    go : (b : Bool) → ltb n (length rs) ≡ b → f (getD (rs ++ xs) n unknown) ≡ f (getD rs n unknown)
+    go true e = ap f (List·getD-append rs xs unknown n (ltb-true n (length rs) e))
+    go false e =
+        let i : length rs ≤ n = ltb-false n (length rs) e in
+        none (getD (rs ++ xs) n unknown) (getD-none rs xs n h i) ∙ sym (ap f (List·getD-eq-default rs unknown i))
+
 pub places-same : (rs xs : List Record) → All (λ r. is-node r ≡ false) xs → place (rs ++ xs) ≡ place rs
 unfolding place is-node
-places-same rs xs h = fun-ext (λ n. go n (ltb n (length rs)) refl)
-  where
-    go : (n : ℕ) (b : Bool) → ltb n (length rs) ≡ b → place (rs ++ xs) n ≡ place rs n
-    go n true e = place-append rs xs n (ltb-true n (length rs) e)
-    go n false e =
-        let i : length rs ≤ n = ltb-false n (length rs) e in
-        getD-none rs xs n h i ∙ sym (ap is-node (List·getD-eq-default rs unknown i))
+places-same rs xs h = fun-ext (same-over is-node (λ r e. e) rs xs h)
 
 pub nodes-same : (rs xs : List Record) → All (λ r. is-node r ≡ false) xs → nodeAt (rs ++ xs) ≡ nodeAt rs
 unfolding nodeAt node-of
-nodes-same rs xs h = fun-ext (λ n. go n (ltb n (length rs)) refl)
-  where
-    go : (n : ℕ) (b : Bool) → ltb n (length rs) ≡ b → nodeAt (rs ++ xs) n ≡ nodeAt rs n
-    go n true e = nodeAt-append rs xs n (ltb-true n (length rs) e)
-    go n false e =
-        let i : length rs ≤ n = ltb-false n (length rs) e in
-        node-of-none (getD (rs ++ xs) n unknown) (getD-none rs xs n h i) ∙ sym (ap node-of (List·getD-eq-default rs unknown i))
+nodes-same rs xs h = fun-ext (same-over node-of node-of-none rs xs h)
 
 pub waiting-none : (q : List Entry) → All (λ r. is-node r ≡ false) (map waiting q)
 unfolding is-node

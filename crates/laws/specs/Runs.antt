@@ -5,6 +5,7 @@ use mathlib.Core.Bool.{Bool, true, false, not, cond}
 use mathlib.Core.List.{List, [], _∷_, map}
 use Prim.Native.Nat.{ℕ, zero, suc, _+_, _-_, _^_, _≤_, _<_}
 use native.Mathlib.Omega.{arith}
+use native.Mathlib.Nat.{le-of-lt, lt-of-lt-of-le, lt-of-le-of-lt}
 use lib.Dec.{eqb, ltb}
 use lib.Pow.{pow-pos}
 use lib.ListN.{length, replicate}
@@ -13,7 +14,7 @@ use Rattle.rules.specs.Lists.{keep, sort, total}
 use Rattle.rules.specs.Digits.{top-bit}
 use Rattle.rules.specs.Records.{Entry, Record, nodeAt}
 use Rattle.rules.specs.Totalizer.{merge}
-use Rattle.rules.specs.Build.{Build, largest}
+use Rattle.rules.specs.Build.{Build, largest, some-wait}
 use Rattle.rules.specs.Buckets.{lower}
 use Rattle.rules.specs.Queue.{heavier, run, others, requeue, Sorting, queue-step, queue-run, gathered}
 use Rattle.laws.specs.Facts.{All, All-map, All-keep, total-keep}
@@ -23,29 +24,17 @@ use Rattle.laws.specs.Sorts.{Order, All-insert, All-sort, total-insert, 
 pub heavier-order : Order heavier
 unfolding heavier
 heavier-order = record {
-  one-way = λ x y e. le-ltb _ _ (le-of (ltb-true (y .weight) (x .weight) e));
-  apart = λ e x y p q. lt-ltb _ _ (between (ltb-true (x .weight) (e .weight) p) (ltb-false (x .weight) (y .weight) q));
+  one-way = λ x y e. le-ltb _ _ (le-of-lt (ltb-true (y .weight) (x .weight) e));
+  apart = λ e x y p q. lt-ltb _ _ (lt-of-le-of-lt (ltb-false (x .weight) (y .weight) q) (ltb-true (x .weight) (e .weight) p));
 }
-  where
-    le-of : {a b : ℕ} → a < b → a ≤ b
-    le-of h = omega arith
-
-    between : {a b c : ℕ} → a < b → c ≤ a → c < b
-    between h k = omega arith
 
 pub lower-order : (rs : List Record) → Order (lower rs)
 unfolding lower
 lower-order rs = record {
-  one-way = λ x y e. le-ltb _ _ (le-of (ltb-true (nodeAt rs x .maximum) (nodeAt rs y .maximum) e));
-  apart = λ e x y p q. lt-ltb _ _ (between (ltb-true (nodeAt rs e .maximum) (nodeAt rs x .maximum) p)
+  one-way = λ x y e. le-ltb _ _ (le-of-lt (ltb-true (nodeAt rs x .maximum) (nodeAt rs y .maximum) e));
+  apart = λ e x y p q. lt-ltb _ _ (lt-of-lt-of-le (ltb-true (nodeAt rs e .maximum) (nodeAt rs x .maximum) p)
       (ltb-false (nodeAt rs y .maximum) (nodeAt rs x .maximum) q));
 }
-  where
-    le-of : {a b : ℕ} → a < b → a ≤ b
-    le-of h = omega arith
-
-    between : {a b c : ℕ} → a < b → b ≤ c → a < c
-    between h k = omega arith
 
 -- a sum is 0 exactly if each part is
 pub total-zero : {A : Type 0} (f : A → ℕ) (xs : List A) → total (map f xs) ≡ 0 → All (λ x. f x ≡ 0) xs
@@ -63,6 +52,12 @@ pub largest-all : (es : List Entry) (b : ℕ) → largest es ≤ b → All (λ e
 unfolding largest
 largest-all [] b h = tt
 largest-all (e ∷ es) b h = (omega arith, largest-all es b (omega arith))
+
+-- something waits where a weight is at least 1
+pub some-waits : (es : List Entry) → 1 ≤ largest es → some-wait es ≡ true
+unfolding some-wait largest
+some-waits [] h = absurd (omega arith)
+some-waits (e ∷ es) h = refl
 
 pub all-largest : (es : List Entry) (b : ℕ) → All (λ e. e .weight ≤ b) es → largest es ≤ b
 unfolding largest

@@ -108,6 +108,26 @@ pub record Tower (wait : Bool) (A : List ℕ) (rs : List Record) (low : ℕ) (be
   pub some : 1 ≤ length below + total (map length mss) → 1 ≤ length (r .1)
 
 module _ (wait : Bool) (A : List ℕ) (low : ℕ) where
+  -- one bucket raised, then the rest over it
+  raised-then : (rs : List Record) (below ts ms : List ℕ) (mss : List (List ℕ)) (r : List Record × ℕ) → All (λ a. a < length rs) A →
+      low ≤ length rs → All (λ b. low ≤ b) below → All (Fit rs low A) mss → Raised wait A rs below r →
+      ((rs₁ : List Record) (b : ℕ) → All (λ a. a < length rs₁) A → low ≤ length rs₁ → Standing wait A rs₁ (b ∷ below) →
+      All (λ b. low ≤ b) (b ∷ below) → All (Fit rs₁ low A) mss → Tower wait A rs₁ low (b ∷ below) mss (buckets-over wait rs₁ (b ∷ below) ts mss)) →
+      Tower wait A rs low below (ms ∷ mss) (buckets-over wait (r .0) (r .1 ∷ below) ts mss)
+  unfolding total
+  raised-then rs below ts ms mss r inside under fresh fits h go =
+      let le : length rs ≤ length (r .0) = grown-length rs (r .0) (h .grown) in
+      let t : Tower wait A (r .0) low (r .1 ∷ below) mss (buckets-over wait (r .0) (r .1 ∷ below) ts mss) =
+      go (r .0) (r .1) (All-map (λ a (k : a < length rs). omega arith) A inside) (omega arith) (h .standing)
+      (omega (arith, h .fresh), fresh) (All-map (λ ms f. fit-grown rs (r .0) low A ms (h .grown) f) mss fits) in
+      record {
+        standing = t .standing;
+        grown = grown-then rs (r .0) _ (h .grown) (t .grown);
+        fresh = t .fresh;
+        many = omega (arith, t .many);
+        some = λ k. t .some (omega arith);
+      }
+
   -- all with tares
   pub tower : (mss : List (List ℕ)) (rs : List Record) (below tares : List ℕ) → All (λ a. a < length rs) A → low ≤ length rs →
       Standing wait A rs below → All (λ b. low ≤ b) below →
@@ -134,54 +154,18 @@ module _ (wait : Bool) (A : List ℕ) (low : ℕ) where
             λ k. h .some (omega arith);
       }
   tower ((m ∷ ms) ∷ mss) rs [] (t ∷ ts) inside under s fresh fits laws enough =
-      next (tared wait A rs low [] t ts (m ∷ ms) inside under s fresh (fits .0) (laws .0) (λ e. omega arith))
-      (λ rs₁ b i u s f k. tower mss rs₁ (b ∷ []) ts i u s f k (laws .1) (omega arith)) (fits .1)
-    where
-      next : {r : List Record × ℕ} → Raised wait A rs [] r →
-          ((rs₁ : List Record) (b : ℕ) → All (λ a. a < length rs₁) A → low ≤ length rs₁ → Standing wait A rs₁ (b ∷ []) →
-          All (λ b. low ≤ b) (b ∷ []) → All (Fit rs₁ low A) mss →
-          Tower wait A rs₁ low (b ∷ []) mss (buckets-over wait rs₁ (b ∷ []) ts mss)) →
-          All (Fit rs low A) mss → Tower wait A rs low [] ((m ∷ ms) ∷ mss) (buckets-over wait (r .0) (r .1 ∷ []) ts mss)
-      next {r = r} h go fits =
-          let le : length rs ≤ length (r .0) = grown-length rs (r .0) (h .grown) in
-          let t : Tower wait A (r .0) low (r .1 ∷ []) mss (buckets-over wait (r .0) (r .1 ∷ []) ts mss) =
-          go (r .0) (r .1) (All-map (λ a (k : a < length rs). omega arith) A inside) (omega arith) (h .standing)
-          (omega (arith, h .fresh), tt) (All-map (λ ms f. fit-grown rs (r .0) low A ms (h .grown) f) mss fits) in
-          record {
-            standing = t .standing;
-            grown = grown-then rs (r .0) _ (h .grown) (t .grown);
-            fresh = t .fresh;
-            many =
-                omega (arith, t .many);
-            some = λ k. t .some (omega arith);
-          }
+      raised-then rs [] ts (m ∷ ms) mss (bucket wait rs [] (t ∷ ts) (m ∷ ms)) inside under fresh (fits .1)
+      (tared wait A rs low [] t ts (m ∷ ms) inside under s fresh (fits .0) (laws .0) (λ e. omega arith))
+      (λ rs₁ b i u s f k. tower mss rs₁ (b ∷ []) ts i u s f k (laws .1) (omega arith))
   tower (ms ∷ mss) rs (c ∷ bs) (t ∷ ts) inside under s fresh fits laws enough =
-      next (tared wait A rs low (c ∷ bs) t ts ms inside under s fresh (fits .0) (laws .0) (λ e. absurd (cons-nil e)))
-      (λ rs₁ b i u s f k. tower mss rs₁ (b ∷ c ∷ bs) ts i u s f k (laws .1) (omega arith)) (fits .1)
+      raised-then rs (c ∷ bs) ts ms mss (bucket wait rs (c ∷ bs) (t ∷ ts) ms) inside under fresh (fits .1)
+      (tared wait A rs low (c ∷ bs) t ts ms inside under s fresh (fits .0) (laws .0) (λ e. absurd (cons-nil e)))
+      (λ rs₁ b i u s f k. tower mss rs₁ (b ∷ c ∷ bs) ts i u s f k (laws .1) (omega arith))
     where
       cons-nil : c ∷ bs ≡ [] → ⊥
       cons-nil e =
           let z : length (c ∷ bs) ≡ 0 = ap length e in
           omega arith
-
-      next : {r : List Record × ℕ} → Raised wait A rs (c ∷ bs) r →
-          ((rs₁ : List Record) (b : ℕ) → All (λ a. a < length rs₁) A → low ≤ length rs₁ → Standing wait A rs₁ (b ∷ c ∷ bs) →
-          All (λ b. low ≤ b) (b ∷ c ∷ bs) → All (Fit rs₁ low A) mss →
-          Tower wait A rs₁ low (b ∷ c ∷ bs) mss (buckets-over wait rs₁ (b ∷ c ∷ bs) ts mss)) →
-          All (Fit rs low A) mss → Tower wait A rs low (c ∷ bs) (ms ∷ mss) (buckets-over wait (r .0) (r .1 ∷ c ∷ bs) ts mss)
-      next {r = r} h go fits =
-          let le : length rs ≤ length (r .0) = grown-length rs (r .0) (h .grown) in
-          let t : Tower wait A (r .0) low (r .1 ∷ c ∷ bs) mss (buckets-over wait (r .0) (r .1 ∷ c ∷ bs) ts mss) =
-          go (r .0) (r .1) (All-map (λ a (k : a < length rs). omega arith) A inside) (omega arith) (h .standing)
-          (omega (arith, h .fresh), fresh) (All-map (λ ms f. fit-grown rs (r .0) low A ms (h .grown) f) mss fits) in
-          record {
-            standing = t .standing;
-            grown = grown-then rs (r .0) _ (h .grown) (t .grown);
-            fresh = t .fresh;
-            many =
-                omega (arith, t .many);
-            some = λ k. t .some (omega arith);
-          }
 
 -- where there are no members nothing is built
 pub buckets-none : (wait : Bool) (mss : List (List ℕ)) (rs : List Record) (tares : List ℕ) → total (map length mss) ≡ 0 →

@@ -34,6 +34,12 @@ literal-word-literal (negsuc n) =
     let half : (2 * suc n + 1) / 2 ≡ suc n = omega arith in
     rw (ne-eqb ((2 * suc n + 1) % 2) 0 odd) (ap (λ k. negℤ (pos k)) half)
 
+-- and is never 1
+pub word-not-one : (x : ℤ) → literal-word x ≡ 1 → ⊥
+unfolding literal-word
+word-not-one (pos n) e = omega arith
+word-not-one (negsuc n) e = omega arith
+
 -- words that are the image of what they say are a record
 record-of : (r : Record) (ws : List ℕ) →
     reading (getD ws 0 0) (getD ws 1 0) (getD ws 2 0) (getD ws 3 0) (getD ws 4 0) (getD ws 5 0) ≡ r →

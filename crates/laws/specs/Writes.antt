@@ -37,7 +37,7 @@ all-joined (b ∷ bs) cs e f =
     let (here, rest) = both b (all (λ c. c) bs) e in
     and-true here (all-joined bs cs rest f)
 
-waiting-known : (q : List Entry) → All (λ r. known r ≡ true) (map waiting q)
+pub waiting-known : (q : List Entry) → All (λ r. known r ≡ true) (map waiting q)
 unfolding known
 waiting-known [] = tt
 waiting-known (e ∷ q) = (refl, waiting-known q)

@@ -94,6 +94,18 @@ pub still-built : (b : Build) → unbuilt b ≡ false → b .built ≢ 0
 unfolding unbuilt
 still-built b e = eqb-false (b .built) 0 e
 
+-- what holds of the first build, of a refinement and of the build as it is holds of what encode prepares
+pub prepared-cases : (P : Build → Type 0) (b : Build) → (unbuilt b ≡ true → P (build-structure b)) →
+    (unbuilt b ≡ false → due b ≡ true → P (merge-structures b)) → (unbuilt b ≡ false → due b ≡ false → P b) → P (prepared b)
+unfolding prepared
+prepared-cases P b first refined same = go (unbuilt b) refl (due b) refl
+  where
+    go : (t : Bool) → unbuilt b ≡ t → (d : Bool) → due b ≡ d →
+        P (elim t [ true ↦ build-structure b | false ↦ elim d [ true ↦ merge-structures b | false ↦ b ] ])
+    go true e d h = first e
+    go false e true h = refined e h
+    go false e false h = same e h
+
 -- the first build
 pub first-ready : (b : Build) → Formed b → Ahead b → 2 ≤ b .inputs → divisor-above b ≡ false → unbuilt b ≡ true →
     build-structure b .arena .fresh ≤ 1000000001 → Ready (build-structure b)
@@ -119,19 +131,9 @@ refined-ready b f ahead two e d few =
 module _ (b : Build) (f : Formed b) (ahead : Ahead b) (two : 2 ≤ b .inputs) (reached : divisor-above b ≡ false) where
   -- the first build, refinement or nothing leaves a ready build
   pub prepared-ready : prepared b .arena .fresh ≤ 1000000001 → Ready (prepared b)
-  unfolding prepared
-  prepared-ready few = go (unbuilt b) refl (due b) refl few
-    where
-      go : (t : Bool) → unbuilt b ≡ t → (d : Bool) → due b ≡ d →
-          (elim t as (λ x. Build) [
-            | true ↦ build-structure b
-            | false ↦ elim d as (λ x. Build)
-                [ true ↦ merge-structures b | false ↦ b ]
-          ]) .arena .fresh ≤ 1000000001 →
-          Ready (elim t [ true ↦ build-structure b | false ↦ elim d [ true ↦ merge-structures b | false ↦ b ] ])
-      go true e d h few = first-ready b f ahead two reached e few
-      go false e true h few = refined-ready b f ahead two e h few
-      go false e false h few = record { formed = f; ahead = ahead; is-built = still-built b e }
+  prepared-ready =
+      prepared-cases (λ c. c .arena .fresh ≤ 1000000001 → Ready c) b (λ e. first-ready b f ahead two reached e)
+      (λ e d. refined-ready b f ahead two e d) (λ e d few. record { formed = f; ahead = ahead; is-built = still-built b e })
 
   -- the build that encode reaches is well formed
   pub encoded-formed : (lo end : ℕ) → encode-outputs (prepared b) lo end .arena .fresh ≤ 1000000001 →

@@ -95,4 +95,4 @@ members-fit base A n most q g =
     (λ ms there rest. record { there = there; old = All-map (place-inside (q .records)) ms there; avoid = rest .0; few = rest .1 })
     (q .members) (g .members-there)
     (All-zip {P = λ ms. All (λ m. occurs m A ≡ 0) ms} (λ ms out few. (out, few)) (q .members) (g .members-avoid)
-    (All-places (λ ms. maxima (q .records) ms ≤ 256) [] (q .members) (λ k. gathers-members base A n most q g k .1)))
+    (All-places (λ ms. maxima (q .records) ms ≤ 256) [] (q .members) (λ k i. gathers-members base A n most q g k .1)))

@@ -13,7 +13,7 @@ use lib.IntN.{ℤ, pos}
 use Rattle.rules.specs.Lists.{total, rising}
 use Rattle.rules.specs.Numbers.{lawful}
 use Rattle.rules.specs.Digits.{top-bit}
-use Rattle.rules.specs.Records.{leaf, join, Node, Output, Entry, Record, node, waits, nodeAt, left-link, outputs}
+use Rattle.rules.specs.Records.{leaf, join, Node, Output, Record, node, waits, nodeAt, left-link, outputs}
 use Rattle.rules.specs.Build.{Build, restructured, clause-total, clause-mark, largest, some-wait}
 use Rattle.rules.specs.Queue.{Sorting, gathered}
 use Rattle.rules.specs.Buckets.{buckets-over}
@@ -27,17 +27,12 @@ use Rattle.laws.specs.Grows.{Grown, grown-then, grown-length, grown-at, grown-p
 use Rattle.laws.specs.Gathers.{gathers-waits}
 use Rattle.laws.specs.Standings.{standing-none, left-inside, linked-grown, lefts-grown}
 use Rattle.laws.specs.Towers.{Fit, Tower, tower}
+use Rattle.laws.specs.Runs.{some-waits}
 use Rattle.laws.specs.Climbs.{climb, linked-joins}
 use Rattle.laws.specs.Patches.{Patched, patched-over}
 use Rattle.laws.specs.Keeps.{Rises, rises-grown, defined-rises, waits-grown, waits-same, variables-same, taken-tares, All-take, total-part}
 use Rattle.preserve.specs.Gathered.{Gathered, gathered-made, members-fit}
 use Rattle.preserve.specs.Given.{Ahead, set-positive, weights-few, waiting-below, buckets-there, buckets-inside, tares-lawful, fresh-lawful}
-
--- something waits where a weight is at least 1
-some-waits : (q : List Entry) → 1 ≤ largest q → some-wait q ≡ true
-unfolding some-wait largest
-some-waits [] h = absurd (omega arith)
-some-waits (e ∷ q) h = refl
 
 module _ (b : Build) (f : Formed b) (built : b .built ≢ 0) (reach : b .set ≤ largest (b .queue)) where
   abbrev pub base : List Record

@@ -30,10 +30,24 @@ divisor-power (suc d) e = power-is (suc d) (not-not (power-of-two (suc d))
     (ap (λ (t : Bool). not (t || power-of-two (suc d))) (sym (ne-eqb (suc d) 0 (λ z. omega arith))) ∙ e))
 
 -- the build with another set divisor
-set-formed : (s : State) (rs : List Record) (d : ℕ) → Formed (build-over s rs) → d ≡ 2 ^ top-bit d → (s .built ≢ 0 → d ≤ s .built) →
-    Formed (build-over (with-set s d) rs)
-unfolding build-over with-set clause-total clause-mark tares-of buckets-of
-set-formed s rs d f power below = record {
+unfoldable pub set-to : Build → ℕ → Build
+set-to b d = record {
+  inputs = b .inputs;
+  sum = b .sum;
+  first = b .first;
+  set = d;
+  built = b .built;
+  tares = b .tares;
+  buckets = b .buckets;
+  queue = b .queue;
+  arena = b .arena;
+  clauses-before = b .clauses-before;
+  words-before = b .words-before;
+}
+
+pub set-formed : (b : Build) (d : ℕ) → Formed b → d ≡ 2 ^ top-bit d → (b .built ≢ 0 → d ≤ b .built) → Formed (set-to b d)
+unfolding set-to clause-total clause-mark
+set-formed b d f power below = record {
   all-known = f .all-known;
   none-waits = f .none-waits;
   first-low = f .first-low;
@@ -91,7 +105,7 @@ not-coarser b d e n h = go (ltb (b .set) (divisor-of d)) refl
 -- what an accepted set leaves is well formed
 pub accepted-set : (s : State) (store : List ℕ) (clauses : List ℤ) (d : ℕ) → set-refusal s store clauses d ≡ 0 →
     well-formed (set-precision s store clauses d .state) store clauses ≡ true
-unfolding set-precision set-end set-refusal first-of not-well-formed buildOf held with-set
+unfolding set-precision set-end set-refusal first-of not-well-formed buildOf build-over held with-set set-to tares-of buckets-of
 accepted-set s store clauses d e =
     let (formed, e₁) = not-first 11 (not-well-formed s store clauses) _ e in
     let (lawful, e₂) = not-first 7 (divisor-unlawful d) _ e₁ in
@@ -103,6 +117,6 @@ accepted-set s store clauses d e =
       records-within = w .records-within;
       words-within = w .words-within;
       laid = set-laid s rs (divisor-of d) (w .laid);
-      formed = set-formed s rs (divisor-of d) (w .formed) (divisor-power d lawful)
+      formed = set-formed (build-over s rs) (divisor-of d) (w .formed) (divisor-power d lawful)
           (λ n. not-coarser (buildOf s store) d finer n (w .formed .if-built n .coarser));
     })

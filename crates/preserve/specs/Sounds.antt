@@ -21,7 +21,7 @@ use Rattle.laws.specs.Formed.{Sound, Formed}
 use Rattle.laws.specs.Defines.{Over, over-write, over-take, define-keeps, extend-bucket-keeps}
 use Rattle.preserve.specs.Builds.{first-sound}
 use Rattle.preserve.specs.Refinements.{patched-sound, merged-fresh}
-use Rattle.preserve.specs.Encodes.{encode-fresh, still-built}
+use Rattle.preserve.specs.Encodes.{encode-fresh, still-built, prepared-cases}
 
 -- every node among the records goes by rule
 abbrev pub Sounds : List Record → Type 0
@@ -83,20 +83,11 @@ first-build-sound b f two reached e few =
 -- the first build, refinement or nothing
 pub prepared-sound : (b : Build) → Formed b → 2 ≤ b .inputs → divisor-above b ≡ false → prepared b .arena .fresh ≤ 1000000001 →
     Sounds (prepared b .arena .records)
-unfolding prepared
-prepared-sound b f two reached few = go (unbuilt b) refl (due b) refl few
-  where
-    go : (t : Bool) → unbuilt b ≡ t → (d : Bool) → due b ≡ d →
-        (elim t as (λ x. Build) [
-          | true ↦ build-structure b
-          | false ↦ elim d as (λ x. Build)
-              [ true ↦ merge-structures b | false ↦ b ]
-        ]) .arena .fresh ≤ 1000000001 →
-        Sounds ((elim t as (λ x. Build) [ true ↦ build-structure b | false ↦ elim d as (λ x. Build) [ true ↦ merge-structures b | false ↦ b ] ]) .arena .records)
-    go true e d h few = first-build-sound b f two reached e few
-    go false e true h few =
-        refined-sound b f (still-built b e) (leb-true _ _ (both (not (unbuilt b)) (leb (b .set) (largest (b .queue))) h .1)) few
-    go false e false h few = f .sound
+unfolding due
+prepared-sound b f two reached =
+    prepared-cases (λ c. c .arena .fresh ≤ 1000000001 → Sounds (c .arena .records)) b (λ e. first-build-sound b f two reached e)
+    (λ e d. refined-sound b f (still-built b e) (leb-true _ _ (both (not (unbuilt b)) (leb (b .set) (largest (b .queue))) d .1)))
+    (λ e d few. f .sound)
 
 -- the records that encode reaches
 pub encode-sound : (b : Build) (lo end : ℕ) → Formed b → 2 ≤ b .inputs → divisor-above b ≡ false →

@@ -57,7 +57,7 @@ leaves-ruled at pl [] h n = ruled-dummy at pl
 leaves-ruled at pl (x ∷ xs) h zero = ruled-leaf at pl x (h .0)
 leaves-ruled at pl (x ∷ xs) h (suc n) = leaves-ruled at pl xs (h .1) n
 
-no-outputs : (xs : List ℤ) → outputs (leaves xs) ≡ []
+pub no-outputs : (xs : List ℤ) → outputs (leaves xs) ≡ []
 unfolding outputs
 no-outputs [] = refl
 no-outputs (x ∷ xs) = no-outputs xs

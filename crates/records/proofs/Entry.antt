@@ -16,17 +16,13 @@ use Rattle.rules.specs.Records.{Record, unknown, record-image, imageOf, recordO
 use Rattle.rules.specs.Totalizer.{Arena}
 use Rattle.rules.specs.Build.{clause-words}
 use Rattle.laws.specs.Words.{record-image-length, image-length, records-of-image}
+use Rattle.laws.specs.Whole.{records-length}
 use Rattle.records.specs.declared.Marks.{Marks}
 use Rattle.records.specs.Words.{put-record}
 use Rattle.records.specs.Carries.{St, st, storeOf, bufferOf, marksOf, laid, written, peak, Fits, Holds, Carries, Steps, Makes, Lent, read-arena}
 use Rattle.records.proofs.Lay.{laid-length, laid-again, laid-front, front-laid, image-append, image-more}
 use Rattle.records.proofs.Grow.{fits-or}
 use Rattle.records.proofs.Step.{going}
-
-pub records-length : (s : List ℕ) (n : ℕ) → length (recordsOf s n) ≡ n
-unfolding recordsOf
-records-length s zero = refl
-records-length s (suc n) = ap suc (records-length (drop 8 s) n)
 
 -- the entry carries what it reads
 pub begins : (σ : St) → Lent σ → Carries σ σ (read-arena σ)

@@ -7,11 +7,12 @@ use native.Mathlib.Omega.{arith}
 use lib.Dec.{eqb, ltb}
 use lib.ListN.{length, getD, take, length-take, List·getD-eq-default, getD-replicate}
 use lib.Seq.{getD-take}
-use borrow.Author.Tests.{ltb-true, ltb-false, lt-ltb, eqb-true, eqb-false}
+use borrow.Author.Tests.{ltb-true, ltb-false, lt-ltb, eqb-true, eqb-false, ne-eqb}
 use lib.IntN.{ℤ, pos}
-use Rattle.rules.specs.Records.{Kind, leaf, join, dummy, Output, Entry, literal-word, Record, node, output, waiting, unknown, node-image, record-image, imageOf, node-of, nodeAt, dummy-node, left-link, right-link}
+use Rattle.rules.specs.Records.{Kind, leaf, join, dummy, Output, Entry, literal-word, Record, node, output, waiting, unknown, node-image, record-image, imageOf, node-of, nodeAt, dummy-node, left-link, right-link, waits}
 use Rattle.laws.specs.Words.{image-length}
-use Rattle.records.specs.Words.{field-at}
+use Rattle.records.specs.declared.Fields.{Fields}
+use Rattle.records.specs.Words.{field-at, fields}
 use Rattle.records.specs.Carries.{Stores, size, is-join, is-halved}
 use Rattle.records.proofs.Lay.{image-word}
 
@@ -89,33 +90,59 @@ join-parts (join half l r) e = refl
 join-parts (leaf x) e = absurd (false≢true e)
 join-parts dummy e = absurd (false≢true e)
 
+-- a node's first word is 1, 2 or 3
+pub node-first : (k : Kind) (m h : ℕ) → (1 ≤ getD (node-image k m h) 0 0) × (getD (node-image k m h) 0 0 ≤ 3)
+unfolding node-image
+node-first (leaf x) m h = (omega arith, omega arith)
+node-first (join half l r) m h = (omega arith, omega arith)
+node-first dummy m h = (omega arith, omega arith)
+
 -- an output, a waiting entry and a leaf by their words
 output-words : (r : Record) → getD (record-image r) 0 0 ≡ 4 →
     (o : Output) × (r ≡ output o) × (getD (record-image r) 1 0 ≡ o .node) × (getD (record-image r) 2 0 ≡ o .value) ×
     (getD (record-image r) 3 0 ≡ literal-word (pos (o .number)))
-unfolding record-image node-image
-output-words (node n) = go (n .kind) (n .maximum) (n .height)
-  where
-    go : {A : Type 0} (k : Kind) (m h : ℕ) → getD (node-image k m h) 0 0 ≡ 4 → A
-    go (leaf x) m h e = absurd (omega arith)
-    go (join half l r) m h e = absurd (omega arith)
-    go dummy m h e = absurd (omega arith)
+unfolding record-image
+output-words (node n) = λ e. absurd (omega (arith, node-first (n .kind) (n .maximum) (n .height)))
 output-words (output o) = λ e. (o, refl, refl, refl, refl)
 output-words (waiting w) = λ e. absurd (omega arith)
 output-words unknown = λ e. absurd (omega arith)
 
 waiting-words : (r : Record) → getD (record-image r) 0 0 ≡ 5 →
     (w : Entry) × (r ≡ waiting w) × (getD (record-image r) 1 0 ≡ w .node) × (getD (record-image r) 2 0 ≡ w .weight)
-unfolding record-image node-image
-waiting-words (node n) = go (n .kind) (n .maximum) (n .height)
-  where
-    go : {A : Type 0} (k : Kind) (m h : ℕ) → getD (node-image k m h) 0 0 ≡ 5 → A
-    go (leaf x) m h e = absurd (omega arith)
-    go (join half l r) m h e = absurd (omega arith)
-    go dummy m h e = absurd (omega arith)
+unfolding record-image
+waiting-words (node n) = λ e. absurd (omega (arith, node-first (n .kind) (n .maximum) (n .height)))
 waiting-words (output o) = λ e. absurd (omega arith)
 waiting-words (waiting w) = λ e. (w, refl, refl, refl)
 waiting-words unknown = λ e. absurd (omega arith)
+
+pub waits-word : (r : Record) → eqb (getD (record-image r) 0 0) 5 ≡ waits r
+unfolding record-image waits
+waits-word (node n) =
+    let x : ℕ = getD (node-image (n .kind) (n .maximum) (n .height)) 0 0 in
+    let low : x ≤ 3 = node-first (n .kind) (n .maximum) (n .height) .1 in
+    ne-eqb x 5 (λ (e : x ≡ 5). omega arith)
+waits-word (output o) = refl
+waits-word (waiting e) = refl
+waits-word unknown = refl
+
+-- a record of kind 4 is the output that its fields say, one of kind 5 the waiting entry
+module _ (r : Record) (f : Fields) (e : fields f ≡ record-image r) where
+  word : (k : ℕ) → getD (record-image r) k 0 ≡ getD (fields f) k 0
+  word k = ap (λ ws. getD ws k 0) (sym e)
+
+  pub fields-output : f .kind ≡ 4 → r ≡ output (record { node = f .a; value = f .b; number = f .c / 2 })
+  unfolding literal-word
+  fields-output k =
+      let (o, is, a, b, c) = output-words r (word 0 ∙ k) in
+      let third : getD (record-image r) 3 0 ≡ f .c = word 3 in
+      let number : o .number ≡ f .c / 2 = omega arith in
+      is ∙ (ap₂ (λ (y z : ℕ). output (record { node = y; value = z; number = o .number })) (sym a ∙ word 1) (sym b ∙ word 2) ∙
+      ap (λ (y : ℕ). output (record { node = f .a; value = f .b; number = y })) number)
+
+  pub fields-entry : f .kind ≡ 5 → r ≡ waiting (record { node = f .a; weight = f .b })
+  fields-entry k =
+      let (w, is, a, b) = waiting-words r (word 0 ∙ k) in
+      is ∙ ap₂ (λ (y z : ℕ). waiting (record { node = y; weight = z })) (sym a ∙ word 1) (sym b ∙ word 2)
 
 leaf-words : (r : Record) → getD (record-image r) 0 0 ≡ 1 → (x : ℤ) × (node-of r .kind ≡ leaf x) × (getD (record-image r) 1 0 ≡ literal-word x)
 unfolding record-image node-image node-of

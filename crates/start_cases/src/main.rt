@@ -1,7 +1,9 @@
 // Starts, good and bad, one a line: the refusal number or 0, then inputs, sum, set divisor, records and next fresh number of the
-// state, every word of the store, every word of the clause buffer as a literal's word. All lent words are 7 before.
+// state, every word of the store, every word of the clause buffer as a literal's word. All lent words are 7 before. Of a store of
+// thousands of words a sum is printed instead, through the words in order, h = (16777619 h + w) mod 4294967291.
 use libc::STDOUT_FILENO;
 use rules::Answer;
+use rules::Started;
 
 fn number(n: u64) {
     io::write_all(STDOUT_FILENO, b" ");
@@ -31,9 +33,17 @@ fn print_literals(c: &[i32]) {
     }
 }
 
-fn case(name: &[u8], lits: &[i32], weights: &[u64], first: u32, store: &mut [u32]) {
-    let mut clauses = [7i32; 3];
-    let r = watchdog_start::start(lits, weights, first, store, &mut clauses);
+fn print_sum(s: &[u32]) {
+    let mut h: u64 = 0;
+    let mut i: usize = 0;
+    while i < s.len() {
+        h = (16777619 * h + (records::word(s, i) as u64)) % 4294967291;
+        i += 1;
+    }
+    number(h);
+}
+
+fn print_answer(name: &[u8], r: Started) {
     io::write_all(STDOUT_FILENO, name);
     let answer = r.answer;
     number(refusal(answer));
@@ -43,10 +53,20 @@ fn case(name: &[u8], lits: &[i32], weights: &[u64], first: u32, store: &mut [u32
     number(r.state.records as u64);
     number(r.state.fresh as u64);
     io::write_all(STDOUT_FILENO, b" |");
-    print_words(store);
+}
+
+fn print_clauses(c: &[i32]) {
     io::write_all(STDOUT_FILENO, b" |");
-    print_literals(&clauses);
+    print_literals(c);
     io::write_all(STDOUT_FILENO, b"\n");
+}
+
+fn case(name: &[u8], lits: &[i32], weights: &[u64], first: u32, store: &mut [u32]) {
+    let mut clauses = [7i32; 3];
+    let r = watchdog_start::start(lits, weights, first, store, &mut clauses);
+    print_answer(name, r);
+    print_words(store);
+    print_clauses(&clauses);
 }
 
 // Two inputs over 33 words, room for four records and a word more.
@@ -63,6 +83,38 @@ fn lists() {
     case(b"no inputs:", &no_literal, &none, 1, &mut store);
     case(b"a literal without a weight:", &[1], &none, 2, &mut other);
     two(b"two inputs:", [1, -2], [3, 4], 3);
+}
+
+fn put_weight(weights: &mut [u64], i: usize, w: u64) {
+    if i < weights.len() {
+        weights[i] = w;
+    }
+}
+
+// Literals 1, -2, 3 and so on, of weights 1048575, 1048574 and so on.
+fn fill(lits: &mut [i32], weights: &mut [u64]) {
+    let mut i: u32 = 0;
+    while i < 257 {
+        numbers::put_signed(lits, i as usize, 2 * i + 2 + i % 2);
+        put_weight(weights, i as usize, (1048575 - i) as u64);
+        i += 1;
+    }
+}
+
+// As many inputs as the lists are long, over room for 257.
+fn many(name: &[u8], lits: &mut [i32], weights: &mut [u64]) {
+    let mut store = [7u32; 4112];
+    let mut clauses = [7i32; 3];
+    fill(lits, weights);
+    let r = watchdog_start::start(lits, weights, 258, &mut store, &mut clauses);
+    print_answer(name, r);
+    print_sum(&store);
+    print_clauses(&clauses);
+}
+
+fn inputs() {
+    many(b"256 inputs:", &mut [0; 256], &mut [0; 256]);
+    many(b"257 inputs:", &mut [0; 257], &mut [0; 257]);
 }
 
 fn literals() {
@@ -107,6 +159,7 @@ fn order() {
 
 fn main() {
     lists();
+    inputs();
     literals();
     weights();
     fresh();

@@ -7,11 +7,11 @@ use native.Mathlib.Omega.{arith}
 use lib.Dec.{eqb}
 use lib.ListN.{length, getD, drop, drop-of-length-le}
 use lib.Seq.{drop-cons}
-use lib.IntN.{ℤ, pos, negsuc, negℤ}
+use lib.IntN.{ℤ, pos, negℤ}
 use borrow.Author.Tests.{eq-eqb, ne-eqb, eqb-true, eqb-false}
 use Rattle.rules.specs.Records.{Kind, leaf, join, dummy, Record, node, output, waiting, unknown, node-of, nodeAt, node-image, record-image, literal-word, word-literal, outputs}
 use Rattle.rules.specs.Totalizer.{number-in, number-of, literal-of, side}
-use Rattle.laws.specs.Words.{literal-word-literal}
+use Rattle.laws.specs.Words.{literal-word-literal, word-not-one}
 use Rattle.numbers.proofs.Literals.{word-literal-word}
 use Rattle.records.specs.Words.{field-at, side-of}
 use Rattle.records.specs.Carries.{Stores}
@@ -104,12 +104,6 @@ no-leaf-word (node m) w = go (m .kind) (m .maximum) (m .height)
 no-leaf-word (output o) w = λ e. refl
 no-leaf-word (waiting e) w = λ e. refl
 no-leaf-word unknown w = λ e. refl
-
--- no literal has word 1
-word-not-one : (x : ℤ) → literal-word x ≡ 1 → ⊥
-unfolding literal-word
-word-not-one (pos n) e = omega arith
-word-not-one (negsuc n) e = omega arith
 
 -- words that store records, and where the walk stands
 module _ (s : List ℕ) (records : ℕ) (rs : List Record) (h : Stores s records rs) (n v : ℕ) where

@@ -19,8 +19,6 @@ use Rattle.watchdog_ask.proofs.coarse.Kinds as coarse-kinds
 use Rattle.watchdog_ask.proofs.coarse.Reads as coarse
 use Rattle.watchdog_ask.proofs.set.Kinds as set-kinds
 use Rattle.watchdog_ask.proofs.set.Reads as set
-use Rattle.watchdog_ask.proofs.answer.Kinds as answer-kinds
-use Rattle.watchdog_ask.proofs.answer.Reads as answer
 
 pub largest-determined : (κs : Lfts 1) (a : Dens κs largest-kinds.ps) (x y : resT largest-kinds.r κs .Denot) (e f : AtExit (endedOf 1 largest-kinds.ps largest-kinds.r) κs) →
     largest.Post κs a x e → largest.Post κs a y f → (rs : List Record) → Stores (a .0 .now) (a .1 .0) rs → x ≡ y
@@ -42,6 +40,3 @@ coarse-determined κs a x y e f p q = p ∙ sym q
 
 pub set-determined : One-result 0 set-kinds.ps set-kinds.r set.Post
 set-determined κs a x y e f p q = p ∙ sym q
-
-pub answer-determined : One-result 2 answer-kinds.ps answer-kinds.r answer.Post
-answer-determined κs a x y e f p q = p .1 ∙ sym (q .1)

@@ -7,33 +7,17 @@ use native.Mathlib.Omega.{arith}
 use lib.Dec.{eqb}
 use lib.ListN.{length, getD, drop, drop-of-length-le}
 use lib.Seq.{drop-cons}
-use borrow.Author.Tests.{ne-eqb}
-use Rattle.rules.specs.Records.{Kind, leaf, join, dummy, Record, node, output, waiting, unknown, node-image, record-image, waits, entries}
+use Rattle.rules.specs.Records.{Record, node, output, waiting, unknown, record-image, waits, entries}
 use Rattle.rules.specs.Build.{largest, some-wait}
 use Rattle.records.specs.Words.{field-at}
 use Rattle.records.specs.Carries.{Stores}
-use Rattle.records.proofs.Read.{field-is}
+use Rattle.records.proofs.Read.{field-is, node-first, waits-word}
 use Rattle.watchdog_ask.specs.Weight.{weight-of}
-
--- a node is no waiting entry
-node-kind : (k : Kind) (m h : ℕ) → getD (node-image k m h) 0 0 ≡ 5 → ⊥
-unfolding node-image
-node-kind (leaf x) m h e = omega arith
-node-kind (join half l r) m h e = omega arith
-node-kind dummy m h e = omega arith
-
--- a waiting entry by its words
-waits-word : (r : Record) → eqb (getD (record-image r) 0 0) 5 ≡ waits r
-unfolding record-image waits
-waits-word (node n) = ne-eqb _ 5 (node-kind (n .kind) (n .maximum) (n .height))
-waits-word (output o) = refl
-waits-word (waiting e) = refl
-waits-word unknown = refl
 
 -- its weight by its words
 weight-word : (r : Record) → getD (record-image r) 0 0 ≡ 5 → getD (record-image r) 2 0 ≡ weight-of r
 unfolding record-image weight-of
-weight-word (node n) e = absurd (node-kind (n .kind) (n .maximum) (n .height) e)
+weight-word (node n) e = absurd (omega (arith, node-first (n .kind) (n .maximum) (n .height)))
 weight-word (output o) e = absurd (omega arith)
 weight-word (waiting w) e = refl
 weight-word unknown e = absurd (omega arith)

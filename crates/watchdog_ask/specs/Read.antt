@@ -1,21 +1,10 @@
--- What the reading calls need of the words: facts that well formed gives. Assumes nothing.
-use mathlib.Core.Path.{_≡_}
+-- What the reading calls need of a state and a store: facts that well formed gives. Assumes nothing.
 use mathlib.Core.List.{List}
 use Prim.Native.Nat.{ℕ}
 use Rattle.rules.specs.declared.State.{State}
-use Rattle.rules.specs.Records.{Record, nodeAt, entries}
-use Rattle.rules.specs.Totalizer.{number-of}
-use Rattle.rules.specs.Build.{Build, buildOf, held}
+use Rattle.rules.specs.Build.{buildOf, held}
 use Rattle.laws.specs.Formed.{Formed, Laid}
 use Rattle.records.specs.Carries.{Stores}
-
--- the words store records with the nodes, outputs and entries of the build
-pub record Has (b : Build) (store : List ℕ) (records : ℕ) : Type 0 where
-  pub rs : List Record
-  pub stores : Stores store records rs
-  pub node-is : (n : ℕ) → nodeAt (b .arena .records) n ≡ nodeAt rs n
-  pub number-is : (n v : ℕ) → number-of (b .arena .records) n v ≡ number-of rs n v
-  pub queue-is : b .queue ≡ entries rs
 
 -- a state and a store that hold a build
 pub record Readable (s : State) (store : List ℕ) : Type 0 where

@@ -7,24 +7,17 @@ use native.Mathlib.Omega.{arith}
 use lib.Dec.{eqb, leb}
 use lib.ListN.{length, getD, take, drop}
 use lib.Seq.{drop-cons, drop-drop}
-use lib.IntN.{ℤ, pos, negsuc}
 use borrow.Author.Tests.{eqb-true, eqb-false, eq-eqb, ne-eqb, leb-true, le-leb, lt-ltb, not-true}
 use Rattle.rules.specs.Lists.{all, same, rising}
 use Rattle.rules.specs.Records.{leaf, join, dummy, Record, node, output, waiting, unknown, literal-word, word-literal, node-image, record-image, reading, recordOf, recordsOf}
 use Rattle.rules.specs.WellFormed.{known, kinds-known}
-use Rattle.laws.specs.Words.{same-self, same-true, both}
+use Rattle.laws.specs.Words.{same-self, same-true, both, word-not-one}
 use Rattle.laws.specs.Facts.{and-true}
 use Rattle.laws.specs.Whole.{records-length}
 use Rattle.numbers.proofs.Literals.{word-literal-word}
 use Rattle.records.specs.Words.{field-at}
 use Rattle.watchdog_check_known.specs.Words.{zeros, kind-known, words-known, known-at}
 use Rattle.watchdog_check_slots.proofs.Walk.{same-truth, and-false, rest, walk-start, all-same, all-places}
-
--- no literal has word 1
-word-one : (x : ℤ) → literal-word x ≡ 1 → ⊥
-unfolding literal-word
-word-one (pos n) e = omega arith
-word-one (negsuc n) e = omega arith
 
 -- what three zeros say
 zeros-of : (a b c : ℕ) → zeros a b c ≡ true → (a ≡ 0) × (b ≡ 0) × (c ≡ 0)
@@ -86,7 +79,7 @@ known-is zero a b c m h x y =
     sym (none-known 0 a b c m h x y (λ e. omega arith) (λ e. omega arith) (λ e. omega arith) (λ e. omega arith) (λ e. omega arith))
 known-is (suc zero) a b c m h x y = known-by 1 a b c m h x y
     (node (record { kind = leaf (word-literal a); maximum = m; height = h })) refl refl (not (eqb a 1) && zeros b c 0)
-    (λ i. and-true (ap not (ne-eqb a 1 (λ q. word-one (word-literal a) (ap (λ (l : List ℕ). getD l 1 0) i ∙ q))))
+    (λ i. and-true (ap not (ne-eqb a 1 (λ q. word-not-one (word-literal a) (ap (λ (l : List ℕ). getD l 1 0) i ∙ q))))
     (of-zeros b c 0 (sym (ap (λ (l : List ℕ). getD l 2 0) i)) (sym (ap (λ (l : List ℕ). getD l 3 0) i)) refl))
     (λ ex ey p.
     let (na, z) = both (not (eqb a 1)) (zeros b c 0) p in

@@ -9,25 +9,14 @@ use lib.ListN.{length, getD, drop, drop-of-length-le}
 use lib.Seq.{drop-cons}
 use borrow.Author.Tests.{lt-ltb, le-ltb, ltb-true, ltb-false}
 use Rattle.rules.specs.Lists.{total}
-use Rattle.rules.specs.Records.{Record, node, output, waiting, unknown, node-image, record-image, nodeAt, entries}
+use Rattle.rules.specs.Records.{Record, node, output, waiting, unknown, record-image, nodeAt, entries}
 use Rattle.records.specs.declared.Fields.{Fields}
 use Rattle.records.specs.Words.{fields}
+use Rattle.records.proofs.Read.{fields-entry}
 use Rattle.watchdog_check_lists.specs.declared.Budget.{Budget}
 use Rattle.watchdog_check_lists.specs.Steps.{cost, record-cost, total-cost, spent}
-use Rattle.watchdog_check_lists.proofs.Outputs.{node-first}
 
 -- a record of kind 5 is an entry, and no other is one
-entry-words : (r : Record) (f : Fields) → fields f ≡ record-image r → f .kind ≡ 5 → r ≡ waiting (record { node = f .a; weight = f .b })
-unfolding record-image
-entry-words (node n) f e k =
-    let z : f .kind ≡ getD (node-image (n .kind) (n .maximum) (n .height)) 0 0 = ap (λ ws. getD ws 0 0) e in
-    absurd (omega (arith, node-first (n .kind) (n .maximum) (n .height)))
-entry-words (output o) f e k = let z : f .kind ≡ 4 = ap (λ ws. getD ws 0 0) e in absurd (omega arith)
-entry-words (waiting w) f e k =
-    sym (ap₂ (λ (y z : ℕ). waiting (record { node = y; weight = z })) {x = f .a} {y = w .node} {u = f .b} {v = w .weight} (ap (λ ws. getD ws 1 0) e)
-    (ap (λ ws. getD ws 2 0) e))
-entry-words unknown f e k = let z : f .kind ≡ 0 = ap (λ ws. getD ws 0 0) e in absurd (omega arith)
-
 module _ (rs : List Record) (r : Record) (f : Fields) (e : fields f ≡ record-image r) (what : ℕ) where
   pub cost-other : (f .kind ≡ 5 → ⊥) → 0 ≡ record-cost rs what r
   unfolding record-cost record-image
@@ -42,7 +31,7 @@ module _ (rs : List Record) (r : Record) (f : Fields) (e : fields f ≡ record-i
   module _ (k : f .kind ≡ 5) where
     costs : cost rs what (record { node = f .a; weight = f .b }) ≡ record-cost rs what r
     unfolding record-cost
-    costs = ap (record-cost rs what) (sym (entry-words r f e k))
+    costs = ap (record-cost rs what) (sym (fields-entry r f e k))
 
     pub cost-count : what ≡ 0 → 1 ≡ record-cost rs what r
     unfolding cost

@@ -1,85 +1,60 @@
 -- The walks over outputs, one record at a time. Assumes nothing.
-use mathlib.Core.Path.{_≡_, refl, sym, ap, ap₂, _∙_}
+use mathlib.Core.Path.{_≡_, refl, sym, ap, _∙_}
 use mathlib.Core.Bool.{Bool, true, false, not, _&&_, _||_}
 use mathlib.Core.List.{List, [], _∷_}
-use Prim.Native.Nat.{ℕ, suc, _+_, _*_, _/_, _≤_, _<_}
+use Prim.Native.Nat.{ℕ, suc, _+_, _/_, _≤_, _<_}
 use native.Mathlib.Omega.{arith}
 use lib.Dec.{eqb, leb}
 use lib.ListN.{length, getD, drop, drop-of-length-le}
 use lib.Seq.{drop-cons}
 use borrow.Author.Tests.{eq-eqb, ne-eqb, eqb-true, eqb-false}
 use Rattle.rules.specs.Lists.{any}
-use Rattle.rules.specs.Records.{Kind, leaf, join, dummy, Record, Output, node, output, waiting, unknown, node-image, record-image, literal-word, outputs}
+use Rattle.rules.specs.Records.{Node, Output, Entry, Record, node, output, waiting, unknown, record-image, outputs}
 use Rattle.rules.specs.WellFormed.{rise-from, same-output, all-differ, outputs-distinct}
 use Rattle.records.specs.declared.Fields.{Fields}
 use Rattle.records.specs.Words.{fields}
+use Rattle.records.proofs.Read.{fields-output}
 use Rattle.watchdog_check_lists.specs.Steps.{rises, next-low, is-output, defined-in, again-in}
 use Rattle.watchdog_check_slots.proofs.Walk.{along-on, along-stop, along-end}
 
--- a record of kind 4 is an output, and no other is one
-pub node-first : (k : Kind) (m h : ℕ) → getD (node-image k m h) 0 0 ≤ 3
-unfolding node-image
-node-first (leaf x) m h = omega arith
-node-first (join half l r) m h = omega arith
-node-first dummy m h = omega arith
-
-pub output-words : (r : Record) (f : Fields) → fields f ≡ record-image r → f .kind ≡ 4 →
-    r ≡ output (record { node = f .a; value = f .b; number = f .c / 2 })
-unfolding record-image literal-word
-output-words (node n) f e k =
-    let z : f .kind ≡ getD (node-image (n .kind) (n .maximum) (n .height)) 0 0 = ap (λ ws. getD ws 0 0) e in
-    absurd (omega (arith, node-first (n .kind) (n .maximum) (n .height)))
-output-words (output o) f e k =
-    let a : f .a ≡ o .node = ap (λ ws. getD ws 1 0) e in
-    let b : f .b ≡ o .value = ap (λ ws. getD ws 2 0) e in
-    let c : f .c ≡ 2 * o .number = ap (λ ws. getD ws 3 0) e in
-    let d : f .c / 2 ≡ o .number = omega arith in
-    sym (ap₂ (λ (y z : ℕ). output (record { node = y; value = z; number = f .c / 2 })) a b ∙
-    ap (λ (y : ℕ). output (record { node = o .node; value = o .value; number = y })) d)
-output-words (waiting w) f e k = let z : f .kind ≡ 5 = ap (λ ws. getD ws 0 0) e in absurd (omega arith)
-output-words unknown f e k = let z : f .kind ≡ 0 = ap (λ ws. getD ws 0 0) e in absurd (omega arith)
-
+-- a record of another kind than 4 is no output
 module _ (f : Fields) (k : f .kind ≡ 4 → ⊥) where
+  other : {A : Type 0} (g : Record → A) (x : A) → ((n : Node) → x ≡ g (node n)) → ((w : Entry) → x ≡ g (waiting w)) → x ≡ g unknown →
+      (r : Record) → fields f ≡ record-image r → x ≡ g r
+  unfolding record-image
+  other g x of-node of-entry of-none (node n) e = of-node n
+  other g x of-node of-entry of-none (output o) e = absurd (k (ap (λ ws. getD ws 0 0) e))
+  other g x of-node of-entry of-none (waiting w) e = of-entry w
+  other g x of-node of-entry of-none unknown e = of-none
+
   pub rises-other : (r : Record) (low : ℕ) → fields f ≡ record-image r → true ≡ rises low r
-  unfolding record-image rises
-  rises-other (node n) low e = refl
-  rises-other (output o) low e = absurd (k (ap (λ ws. getD ws 0 0) e))
-  rises-other (waiting w) low e = refl
-  rises-other unknown low e = refl
+  unfolding rises
+  rises-other r low = other (rises low) true (λ n. refl) (λ w. refl) refl r
 
   pub low-other : (r : Record) (low : ℕ) → fields f ≡ record-image r → low ≡ next-low low r
-  unfolding record-image next-low
-  low-other (node n) low e = refl
-  low-other (output o) low e = absurd (k (ap (λ ws. getD ws 0 0) e))
-  low-other (waiting w) low e = refl
-  low-other unknown low e = refl
+  unfolding next-low
+  low-other r low = other (next-low low) low (λ n. refl) (λ w. refl) refl r
 
   pub none-other : (r : Record) (n v : ℕ) → fields f ≡ record-image r → false ≡ is-output r n v
-  unfolding record-image is-output
-  none-other (node m) n v e = refl
-  none-other (output o) n v e = absurd (k (ap (λ ws. getD ws 0 0) e))
-  none-other (waiting w) n v e = refl
-  none-other unknown n v e = refl
+  unfolding is-output
+  none-other r n v = other (λ r. is-output r n v) false (λ m. refl) (λ w. refl) refl r
 
   pub again-other : (r : Record) (rs : List Record) → fields f ≡ record-image r → false ≡ again-in r rs
-  unfolding record-image again-in
-  again-other (node m) rs e = refl
-  again-other (output o) rs e = absurd (k (ap (λ ws. getD ws 0 0) e))
-  again-other (waiting w) rs e = refl
-  again-other unknown rs e = refl
+  unfolding again-in
+  again-other r rs = other (λ r. again-in r rs) false (λ m. refl) (λ w. refl) refl r
 
 module _ (r : Record) (f : Fields) (e : fields f ≡ record-image r) (k : f .kind ≡ 4) where
   pub rises-output : (low : ℕ) → leb low (f .c / 2) ≡ rises low r
   unfolding rises
-  rises-output low = ap (rises low) (sym (output-words r f e k))
+  rises-output low = ap (rises low) (sym (fields-output r f e k))
 
   pub low-output : (low : ℕ) → f .c / 2 + 1 ≡ next-low low r
   unfolding next-low
-  low-output low = ap (next-low low) (sym (output-words r f e k))
+  low-output low = ap (next-low low) (sym (fields-output r f e k))
 
   output-is : (n v : ℕ) → (eqb n (f .a) && eqb v (f .b)) ≡ is-output r n v
   unfolding is-output
-  output-is n v = ap (λ (z : Record). is-output z n v) (sym (output-words r f e k))
+  output-is n v = ap (λ (z : Record). is-output z n v) (sym (fields-output r f e k))
 
   pub output-elsewhere : (n v : ℕ) → (f .a ≡ n → ⊥) → false ≡ is-output r n v
   output-elsewhere n v h = ap (λ (b : Bool). b && eqb v (f .b)) (sym (ne-eqb n (f .a) (λ q. h (sym q)))) ∙ output-is n v
@@ -93,7 +68,7 @@ module _ (r : Record) (f : Fields) (e : fields f ≡ record-image r) (k : f .kin
 
   pub again-output : (rs : List Record) → defined-in (f .a) (f .b) rs ≡ again-in r rs
   unfolding again-in
-  again-output rs = ap (λ (z : Record). again-in z rs) (sym (output-words r f e k))
+  again-output rs = ap (λ (z : Record). again-in z rs) (sym (fields-output r f e k))
 
 -- rising numbers
 rise-first : (low : ℕ) (r : Record) (rs : List Record) → rise-from low (outputs (r ∷ rs)) ≡ (rises low r && rise-from (next-low low r) (outputs rs))

@@ -2,7 +2,7 @@
 use mathlib.Core.Path.{_≡_, refl, sym, ap, ap₂, _∙_}
 use mathlib.Core.Bool.{Bool, true, false, not, cond, _&&_, _||_}
 use mathlib.Core.List.{List, [], _∷_}
-use Prim.Native.Nat.{ℕ, _+_, _*_, _/_, _≤_, _<_}
+use Prim.Native.Nat.{ℕ, _+_, _/_, _≤_, _<_}
 use native.Mathlib.Omega.{arith}
 use lib.Dec.{eqb, ltb}
 use lib.ListN.{length, getD}
@@ -16,7 +16,7 @@ use Rattle.laws.specs.Places.{place}
 use Rattle.records.specs.declared.Fields.{Fields}
 use Rattle.records.specs.Words.{field-at, fields}
 use Rattle.records.specs.Carries.{Stores}
-use Rattle.records.proofs.Read.{field-is}
+use Rattle.records.proofs.Read.{field-is, waits-word, fields-output, fields-entry}
 use Rattle.watchdog_check_records.specs.declared.Limits.{Limits}
 use Rattle.watchdog_check_records.specs.Tests.{kind-right, output-right, entry-right, record-right, order-at, place-right, records-right}
 use Rattle.watchdog_check_slots.proofs.Walk.{rest, walk-start}
@@ -61,18 +61,6 @@ kind-leaf (output o) = refl
 kind-leaf (waiting e) = refl
 kind-leaf unknown = refl
 
-kind-waits : (r : Record) → eqb (getD (record-image r) 0 0) 5 ≡ waits r
-unfolding record-image node-image waits
-kind-waits (node n) = go (n .kind) (n .maximum) (n .height)
-  where
-    go : (k : Kind) (m h : ℕ) → eqb (getD (node-image k m h) 0 0) 5 ≡ false
-    go (leaf x) m h = refl
-    go (join half l r) m h = refl
-    go dummy m h = refl
-kind-waits (output o) = refl
-kind-waits (waiting e) = refl
-kind-waits unknown = refl
-
 module _ (s : List ℕ) (records : ℕ) (rs : List Record) (h : Stores s records rs) where
   pub read-is : (i k a b c m t : ℕ) → k ≡ field-at s records i 0 → a ≡ field-at s records i 1 → b ≡ field-at s records i 2 →
       c ≡ field-at s records i 3 → m ≡ field-at s records i 4 → t ≡ field-at s records i 5 →
@@ -112,7 +100,7 @@ module _ (s : List ℕ) (records : ℕ) (rs : List Record) (h : Stores s records
   -- the order of records
   module _ (i x : ℕ) (ex : x ≡ getD (record-image (getD rs i unknown)) 0 0) where
     here : eqb x 5 ≡ waits (getD rs i unknown)
-    here = ap (λ (y : ℕ). eqb y 5) ex ∙ kind-waits (getD rs i unknown)
+    here = ap (λ (y : ℕ). eqb y 5) ex ∙ waits-word (getD rs i unknown)
 
     pub order-other : (x ≡ 5 → ⊥) → true ≡ order-at rs i
     unfolding order-at
@@ -133,7 +121,7 @@ module _ (s : List ℕ) (records : ℕ) (rs : List Record) (h : Stores s records
       pub order-next : i + 1 < records → (y : ℕ) → y ≡ field-at s records (i + 1) 0 → eqb y 5 ≡ order-at rs i
       order-next k y ey =
           let c : records ≡ length rs = h .count-is in
-          ap (λ (z : ℕ). eqb z 5) (ey ∙ field-is s records rs h (i + 1) 0 (omega arith)) ∙ (kind-waits (getD rs (i + 1) unknown) ∙
+          ap (λ (z : ℕ). eqb z 5) (ey ∙ field-is s records rs h (i + 1) 0 (omega arith)) ∙ (waits-word (getD rs (i + 1) unknown) ∙
           (ap (λ (b : Bool). cond b (waits (getD rs (i + 1) unknown)) true) (sym (lt-ltb (i + 1) (length rs) (omega arith))) ∙ waiting-here))
 
 -- a record by its words
@@ -181,40 +169,15 @@ module _ (rs : List Record) (tares buckets : List ℕ) (lim : Limits) where
   right-join (waiting w) f e k = let z : f .kind ≡ 5 = ap (λ ws. getD ws 0 0) e in absurd (omega arith)
   right-join unknown f e k = let z : f .kind ≡ 0 = ap (λ ws. getD ws 0 0) e in absurd (omega arith)
 
-  -- a node's first word is at most 3
-  node-kind : (k : Kind) (m h : ℕ) → (1 ≤ getD (node-image k m h) 0 0) × (getD (node-image k m h) 0 0 ≤ 3)
-  unfolding node-image
-  node-kind (leaf x) m h = (omega arith, omega arith)
-  node-kind (join half l r) m h = (omega arith, omega arith)
-  node-kind dummy m h = (omega arith, omega arith)
-
   pub right-output : (r : Record) (f : Fields) → fields f ≡ record-image r → f .kind ≡ 4 →
       output-right rs tares lim (f .a) (f .b) (f .c / 2) ≡ record-right rs tares buckets lim r
-  unfolding record-image record-right literal-word
-  right-output (node n) f e k =
-      let z : f .kind ≡ getD (node-image (n .kind) (n .maximum) (n .height)) 0 0 = ap (λ ws. getD ws 0 0) e in
-      absurd (omega (arith, node-kind (n .kind) (n .maximum) (n .height)))
-  right-output (output o) f e k =
-      let a : f .a ≡ o .node = ap (λ ws. getD ws 1 0) e in
-      let b : f .b ≡ o .value = ap (λ ws. getD ws 2 0) e in
-      let c : f .c ≡ 2 * o .number = ap (λ ws. getD ws 3 0) e in
-      let d : f .c / 2 ≡ o .number = omega arith in
-      ap₂ (λ (y z : ℕ). output-right rs tares lim y z (f .c / 2)) a b ∙ ap (output-right rs tares lim (o .node) (o .value)) d
-  right-output (waiting w) f e k = let z : f .kind ≡ 5 = ap (λ ws. getD ws 0 0) e in absurd (omega arith)
-  right-output unknown f e k = let z : f .kind ≡ 0 = ap (λ ws. getD ws 0 0) e in absurd (omega arith)
+  unfolding record-right
+  right-output r f e k = ap (record-right rs tares buckets lim) (sym (fields-output r f e k))
 
   pub right-entry : (r : Record) (f : Fields) → fields f ≡ record-image r → f .kind ≡ 5 →
       entry-right rs buckets lim (f .a) (f .b) ≡ record-right rs tares buckets lim r
-  unfolding record-image record-right
-  right-entry (node n) f e k =
-      let z : f .kind ≡ getD (node-image (n .kind) (n .maximum) (n .height)) 0 0 = ap (λ ws. getD ws 0 0) e in
-      absurd (omega (arith, node-kind (n .kind) (n .maximum) (n .height)))
-  right-entry (output o) f e k = let z : f .kind ≡ 4 = ap (λ ws. getD ws 0 0) e in absurd (omega arith)
-  right-entry (waiting w) f e k =
-      let a : f .a ≡ w .node = ap (λ ws. getD ws 1 0) e in
-      let b : f .b ≡ w .weight = ap (λ ws. getD ws 2 0) e in
-      ap₂ (entry-right rs buckets lim) a b
-  right-entry unknown f e k = let z : f .kind ≡ 0 = ap (λ ws. getD ws 0 0) e in absurd (omega arith)
+  unfolding record-right
+  right-entry r f e k = ap (record-right rs tares buckets lim) (sym (fields-entry r f e k))
 
   pub right-other : (r : Record) (f : Fields) → fields f ≡ record-image r → (f .kind ≡ 1 → ⊥) → (f .kind ≡ 2 → ⊥) → (f .kind ≡ 4 → ⊥) →
       (f .kind ≡ 5 → ⊥) → (eqb (f .maximum) 0 && eqb (f .height) 0) ≡ record-right rs tares buckets lim r

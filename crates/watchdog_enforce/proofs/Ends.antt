@@ -2,19 +2,15 @@
 use mathlib.Core.Path.{_≡_, refl, sym, ap, ap₂, _∙_}
 use mathlib.Core.Bool.{Bool, true, false}
 use mathlib.Core.Option.{Option, none, some}
-use mathlib.Core.List.{List, [], _∷_, _++_}
+use mathlib.Core.List.{List, _++_}
 use Prim.Native.Nat.{ℕ, zero, suc}
 use lib.IntN.{ℤ}
 use lib.ListN.{length, take, drop}
+use lib.Seq.{take-append-seam}
 use Rattle.rules.specs.declared.State.{State}
 use Rattle.rules.specs.Build.{buildOf}
 use Rattle.rules.specs.WellFormed.{well-formed}
 use Rattle.rules.specs.Enforce.{EnforceEnd, enforce, enforce-end, refused-end, scratch-short, enforce-ub}
-
--- the first words of a list before others
-front-of : (xs ys : List ℤ) → take (length xs) (xs ++ ys) ≡ xs
-front-of [] ys = refl
-front-of (x ∷ xs) ys = ap (λ l. x ∷ l) (front-of xs ys)
 
 abbrev Front : EnforceEnd → Type 0
 Front e = take (length (e .answer)) (e .scratch) ≡ e .answer
@@ -25,7 +21,7 @@ refused-front n c = refl
 
 given-front : (b : Bool) (a c : List ℤ) → Front (elim b [ true ↦ refused-end 7 c | false ↦ record { answer = a; scratch = a ++ drop (length a) c; refusal = 0 } ])
 given-front true a c = refused-front 7 c
-given-front false a c = front-of a (drop (length a) c)
+given-front false a c = take-append-seam a (drop (length a) c)
 
 end-front : (o : Option (List ℤ)) (c : List ℤ) → Front (enforce-end o c)
 unfolding enforce-end

@@ -23,7 +23,7 @@ pub fn enforce_count(
         *refusal = 12;
         return 0;
     }
-    let a = watchdog_ask::answer(s, store, scratch, u);
+    let a = watchdog_answer::answer(s, store, scratch, u);
     *refusal = a.refusal;
     a.count
 }

@@ -6,7 +6,8 @@ use Prim.Native.Nat.{ℕ, zero, suc, _+_, _*_, _≤_, _<_, max}
 use native.Mathlib.Omega.{arith}
 use borrow.Author.Tests.{leb-true}
 use lib.Dec.{leb}
-use lib.ListN.{length, getD, take, drop}
+use lib.ListN.{length, getD, take, drop, drop-of-length-le}
+use lib.Seq.{take-suc, take-all, drop-cons}
 use lib.IntN.{ℤ, pos}
 use Rattle.rules.specs.Lists.{all, total, rising}
 use Rattle.rules.specs.Numbers.{lawful, lawful-weight}
@@ -25,19 +26,6 @@ pub more-none : (σ : St) → Steps σ σ (with-more [])
 unfolding with-more with-records
 more-none σ = steps-same σ σ (λ t. t) (with-more []) (λ t. sym (ap (with-records t) (append-nil (t .records)))) (steps-none σ)
 
-take-next : {A : Type 0} (d : A) (xs : List A) (i : ℕ) → i < length xs → take i xs ++ (getD xs i d ∷ []) ≡ take (i + 1) xs
-take-next d [] i h = absurd (omega arith)
-take-next d (x ∷ xs) zero h = refl
-take-next d (x ∷ xs) (suc i) h =
-    let e : suc i + 1 ≡ suc (i + 1) = omega arith in
-    ap (λ l. x ∷ l) (take-next d xs i (omega arith)) ∙ ap (λ (k : ℕ). take k (x ∷ xs)) (sym e)
-
-take-whole : {A : Type 0} (xs : List A) (i : ℕ) → length xs ≤ i → take i xs ≡ xs
-take-whole [] zero h = refl
-take-whole [] (suc i) h = refl
-take-whole (x ∷ xs) zero h = absurd (omega arith)
-take-whole (x ∷ xs) (suc i) h = ap (λ l. x ∷ l) (take-whole xs i (omega arith))
-
 -- one more
 pub more-next : (σ τ υ : St) (rs : List Record) (i : ℕ) (r : Record) → i < length rs → getD rs i unknown ≡ r → Steps σ τ (with-more (take i rs)) →
     Steps τ υ (with-record r) → Steps σ υ (with-more (take (i + 1) rs))
@@ -47,13 +35,15 @@ more-next σ τ υ rs i r h e p q = steps-same σ υ (λ t. with-record r (with-
   where
     same : (t : Arena) → with-record r (with-more (take i rs) t) ≡ with-more (take (i + 1) rs) t
     same t =
+        let up : suc i ≡ i + 1 = omega arith in
         ap (with-records t)
         (append-assoc (t .records) (take i rs) (r ∷ []) ∙
-        ap (λ l. t .records ++ l) (ap (λ (x : Record). take i rs ++ (x ∷ [])) (sym e) ∙ take-next unknown rs i h))
+        ap (λ l. t .records ++ l) (ap (λ (x : Record). take i rs ++ (x ∷ [])) (sym e) ∙
+        (sym (take-suc rs i unknown h) ∙ ap (λ (k : ℕ). take k rs) up)))
 
 -- all
 pub more-all : (σ τ : St) (rs : List Record) (i : ℕ) → length rs ≤ i → Steps σ τ (with-more (take i rs)) → Steps σ τ (with-more rs)
-more-all σ τ rs i h p = steps-same σ τ (with-more (take i rs)) (with-more rs) (λ t. ap (λ l. with-more l t) (take-whole rs i h)) p
+more-all σ τ rs i h p = steps-same σ τ (with-more (take i rs)) (with-more rs) (λ t. ap (λ l. with-more l t) (take-all i rs h)) p
 
 -- Leaves ---------------------------------------------------------------------------------------------------------------
 
@@ -145,18 +135,13 @@ total-few ws h k = omega (arith, total-small ws h)
 
 pub total-here : (ws : List ℕ) (i : ℕ) → i < length ws → total (drop i ws) ≡ getD ws i 0 + total (drop (i + 1) ws)
 unfolding total
-total-here [] i h = absurd (omega arith)
-total-here (w ∷ ws) zero h = refl
-total-here (w ∷ ws) (suc i) h =
-    let e : suc i + 1 ≡ suc (i + 1) = omega arith in
-    total-here ws i (omega arith) ∙ ap (λ (k : ℕ). getD ws i 0 + total (drop k (w ∷ ws))) (sym e)
+total-here ws i h =
+    let up : suc i ≡ i + 1 = omega arith in
+    ap total (drop-cons ws i 0 h) ∙ ap (λ (k : ℕ). getD ws i 0 + total (drop k ws)) up
 
 pub total-none : (ws : List ℕ) (i : ℕ) → length ws ≤ i → total (drop i ws) ≡ 0
 unfolding total
-total-none [] zero h = refl
-total-none [] (suc i) h = refl
-total-none (w ∷ ws) zero h = absurd (omega arith)
-total-none (w ∷ ws) (suc i) h = total-none ws i (omega arith)
+total-none ws i h = ap total (drop-of-length-le ws h)
 
 -- Sizes ----------------------------------------------------------------------------------------------------------------
 

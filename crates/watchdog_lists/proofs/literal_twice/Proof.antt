@@ -1,15 +1,14 @@
 -- `literal_twice` looks for each word after its place. Assumes nothing.
-use mathlib.Core.Path.{_≡_, refl, sym, _∙_}
+use mathlib.Core.Path.{_≡_, refl, sym, ap, _∙_}
+use mathlib.Core.Bool.{not}
 use Prim.Native.Nat.{_+_, _-_, _≤_}
 use native.Mathlib.Omega.{arith}
 use borrow.Author.Needs.{needs}
-use borrow.Author.Tests.{eqb-true}
 use lib.ListN.{length, drop}
-use mathlib.Core.Path.{ap}
-use lib.ListN.{getD}
-use Rattle.rules.specs.Lists.{among, distinct}
+use Rattle.rules.specs.Lists.{distinct}
 use Rattle.watchdog_lists.specs.Literals.{words}
-use Rattle.watchdog_lists.proofs.Walk.{distinct-on, distinct-stop, distinct-end, inside, outside, word-again}
+use Rattle.watchdog_check_slots.proofs.Slots.{distinct-on, distinct-stop, distinct-end}
+use Rattle.watchdog_lists.proofs.Walk.{inside, outside, word-again}
 use Rattle.watchdog_lists.proofs.literal_twice.Statement.{statement}
 use Rattle.watchdog_lists.proofs.literal_twice.Tie as tie
 
@@ -32,7 +31,7 @@ stands-requires : tie.Need-stands-requires Inv-loop μ-loop
 stands-requires c κs = search needs
 
 returns : tie.Need-returns Inv-loop μ-loop
-returns c = distinct-stop _ _ _ _ (word-again _ _ _ _ (c .before .before .word-at .ensures) (c .before .stands .ensures)) (inside _ _ (c .before .before .before .loop-test .taken)) (c .if1 .taken) (c .before .before .before .before .loop .inv .0)
+returns c = ap not (distinct-stop _ _ _ (c .before .before .before .before .loop .inv .0) (inside _ _ (c .before .before .before .loop-test .taken)) (sym (word-again _ _ _ _ (c .before .before .word-at .ensures) (c .before .stands .ensures)) ∙ c .if1 .taken))
 
 add-i : tie.Need-add-i Inv-loop μ-loop
 add-i c = omega arith
@@ -41,10 +40,10 @@ loop-less : tie.Need-loop-less Inv-loop μ-loop
 loop-less c = omega arith
 
 loop-again : tie.Need-loop-again Inv-loop μ-loop
-loop-again c = (distinct-on _ _ _ _ (word-again _ _ _ _ (c .before .before .word-at .ensures) (c .before .stands .ensures)) (inside _ _ (c .before .before .before .loop-test .taken)) (c .if1 .left) (c .before .before .before .before .loop .inv .0), omega arith)
+loop-again c = (distinct-on _ _ _ (c .before .before .before .before .loop .inv .0) (inside _ _ (c .before .before .before .loop-test .taken)) (sym (word-again _ _ _ _ (c .before .before .word-at .ensures) (c .before .stands .ensures)) ∙ c .if1 .left), omega arith)
 
 returns-2 : tie.Need-returns-2 Inv-loop μ-loop
-returns-2 c = distinct-end _ _ _ (outside _ _ (c .loop-test .left)) (c .before .loop .inv .0)
+returns-2 c = ap not (distinct-end _ _ _ (c .before .loop .inv .0) (outside _ _ (c .loop-test .left)))
 
 pub literal-twice-spec : {M : Type 1} → statement M
 literal-twice-spec = tie.close (tie.spec Inv-loop μ-loop loop-holds add-stands word-at-requires stands-requires returns add-i loop-less loop-again returns-2)

@@ -28,7 +28,7 @@ lawful-at-requires c κs = search needs
 
 returns : tie.Need-returns Inv-loop μ-loop
 unfolding literal-unlawful signed-at
-returns c = all-stop lawful (pos 0) _ _ _ (c .before .before .loop-test .taken) (sym (c .before .lawful-at .ensures) ∙ not-true (c .before .lawful-at .result) (c .if1 .taken)) (c .before .before .before .loop .inv .0)
+returns c = all-stop lawful (pos 0) _ _ _ (c .before .before .before .loop .inv .0) (c .before .before .loop-test .taken) (sym (c .before .lawful-at .ensures) ∙ not-true (c .before .lawful-at .result) (c .if1 .taken))
 
 add-i : tie.Need-add-i Inv-loop μ-loop
 add-i c = omega arith
@@ -38,11 +38,11 @@ loop-less c = omega arith
 
 loop-again : tie.Need-loop-again Inv-loop μ-loop
 unfolding signed-at
-loop-again c = (all-on lawful (pos 0) _ _ _ (c .before .before .loop-test .taken) (sym (c .before .lawful-at .ensures) ∙ not-false (c .before .lawful-at .result) (c .if1 .left)) (c .before .before .before .loop .inv .0), omega arith)
+loop-again c = (all-on lawful (pos 0) _ _ _ (c .before .before .before .loop .inv .0) (c .before .before .loop-test .taken) (sym (c .before .lawful-at .ensures) ∙ not-false (c .before .lawful-at .result) (c .if1 .left)), omega arith)
 
 returns-2 : tie.Need-returns-2 Inv-loop μ-loop
 unfolding literal-unlawful
-returns-2 c = all-end lawful (pos 0) _ _ _ (c .loop-test .left) (c .before .loop .inv .0)
+returns-2 c = all-end lawful (pos 0) _ _ _ (c .before .loop .inv .0) (c .loop-test .left)
 
 pub literal-unlawful-spec : {M : Type 1} → statement M
 literal-unlawful-spec = tie.close (tie.spec Inv-loop μ-loop loop-holds lawful-at-requires returns add-i loop-less loop-again returns-2)

@@ -31,7 +31,7 @@ variable-requires : tie.Need-variable-requires Inv-loop μ-loop
 variable-requires c κs = search needs
 
 returns : tie.Need-returns Inv-loop μ-loop
-returns c = all-stop (Below _) 0 _ _ _ (inside _ _ (c .before .before .before .loop-test .taken)) (below-no _ _ _ _ (word-there _ _) (c .before .before .word-at .ensures) _ (c .before .variable .ensures) (c .if1 .taken)) (c .before .before .before .before .loop .inv)
+returns c = all-stop (Below _) 0 _ _ _ (c .before .before .before .before .loop .inv) (inside _ _ (c .before .before .before .loop-test .taken)) (below-no _ _ _ _ (word-there _ _) (c .before .before .word-at .ensures) _ (c .before .variable .ensures) (c .if1 .taken))
 
 add-i : tie.Need-add-i Inv-loop μ-loop
 add-i c = omega arith
@@ -40,10 +40,10 @@ loop-less : tie.Need-loop-less Inv-loop μ-loop
 loop-less c = omega arith
 
 loop-again : tie.Need-loop-again Inv-loop μ-loop
-loop-again c = all-on (Below _) 0 _ _ _ (inside _ _ (c .before .before .before .loop-test .taken)) (below-yes _ _ _ _ (word-there _ _) (c .before .before .word-at .ensures) _ (c .before .variable .ensures) (c .if1 .left)) (c .before .before .before .before .loop .inv)
+loop-again c = all-on (Below _) 0 _ _ _ (c .before .before .before .before .loop .inv) (inside _ _ (c .before .before .before .loop-test .taken)) (below-yes _ _ _ _ (word-there _ _) (c .before .before .word-at .ensures) _ (c .before .variable .ensures) (c .if1 .left))
 
 returns-2 : tie.Need-returns-2 Inv-loop μ-loop
-returns-2 c = all-end (Below _) 0 _ _ _ (outside _ _ (c .loop-test .left)) (c .before .loop .inv)
+returns-2 c = all-end (Below _) 0 _ _ _ (c .before .loop .inv) (outside _ _ (c .loop-test .left))
 
 pub reaches-spec : {M : Type 1} → statement M
 reaches-spec = tie.close (tie.spec Inv-loop μ-loop loop-holds word-at-requires variable-requires returns add-i loop-less loop-again returns-2)

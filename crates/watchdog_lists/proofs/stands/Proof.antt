@@ -7,7 +7,8 @@ use borrow.Author.Tests.{not-true, not-false}
 use lib.ListN.{length, drop}
 use Rattle.rules.specs.Lists.{among}
 use Rattle.watchdog_lists.specs.Literals.{words}
-use Rattle.watchdog_lists.proofs.Walk.{among-on, among-stop, among-end, inside, outside, word-there}
+use Rattle.watchdog_check_slots.proofs.Slots.{among-on, among-hit, among-end}
+use Rattle.watchdog_lists.proofs.Walk.{inside, outside, word-there}
 use Rattle.watchdog_lists.proofs.stands.Statement.{statement}
 use Rattle.watchdog_lists.proofs.stands.Tie as tie
 
@@ -24,7 +25,7 @@ word-at-requires : tie.Need-word-at-requires Inv-loop μ-loop
 word-at-requires c κs = search needs
 
 returns : tie.Need-returns Inv-loop μ-loop
-returns c = among-stop _ _ _ _ (inside _ _ (c .before .before .loop-test .taken)) (word-there _ _ ∙ (sym (c .before .word-at .ensures) ∙ c .if1 .taken)) (c .before .before .before .loop .inv)
+returns c = among-hit _ _ _ _ (c .before .before .before .loop .inv) (inside _ _ (c .before .before .loop-test .taken)) (word-there _ _ ∙ (sym (c .before .word-at .ensures) ∙ c .if1 .taken))
 
 add-i : tie.Need-add-i Inv-loop μ-loop
 add-i c = omega arith
@@ -33,10 +34,10 @@ loop-less : tie.Need-loop-less Inv-loop μ-loop
 loop-less c = omega arith
 
 loop-again : tie.Need-loop-again Inv-loop μ-loop
-loop-again c = among-on _ _ _ _ (inside _ _ (c .before .before .loop-test .taken)) (λ q. c .if1 .left (c .before .word-at .ensures ∙ (sym (word-there _ _) ∙ q))) (c .before .before .before .loop .inv)
+loop-again c = among-on _ _ _ _ (c .before .before .before .loop .inv) (inside _ _ (c .before .before .loop-test .taken)) (λ q. c .if1 .left (c .before .word-at .ensures ∙ (sym (word-there _ _) ∙ q)))
 
 returns-2 : tie.Need-returns-2 Inv-loop μ-loop
-returns-2 c = among-end _ _ _ _ (outside _ _ (c .loop-test .left)) (c .before .loop .inv)
+returns-2 c = among-end _ _ _ _ (c .before .loop .inv) (outside _ _ (c .loop-test .left))
 
 pub stands-spec : {M : Type 1} → statement M
 stands-spec = tie.close (tie.spec Inv-loop μ-loop loop-holds word-at-requires returns add-i loop-less loop-again returns-2)

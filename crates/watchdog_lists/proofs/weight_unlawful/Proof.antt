@@ -30,7 +30,7 @@ shared-slice-read-if1 c = omega arith
 
 returns : tie.Need-returns Inv-loop μ-loop
 unfolding weight-unlawful
-returns c = all-stop lawful-weight 0 _ _ _ (c .before .before .loop-test .taken) (weight-none _ (c .if1 .taken)) (c .before .before .before .loop .inv .0)
+returns c = all-stop lawful-weight 0 _ _ _ (c .before .before .before .loop .inv .0) (c .before .before .loop-test .taken) (weight-none _ (c .if1 .taken))
 
 mul-if2 : tie.Need-mul-if2 Inv-loop μ-loop
 mul-if2 c = omega arith
@@ -40,7 +40,7 @@ shared-slice-read-if2 c = omega arith
 
 returns-2 : tie.Need-returns-2 Inv-loop μ-loop
 unfolding weight-unlawful
-returns-2 c = all-stop lawful-weight 0 _ _ _ (c .before .before .before .before .loop-test .taken) (weight-large _ (c .if2 .taken)) (c .before .before .before .before .before .loop .inv .0)
+returns-2 c = all-stop lawful-weight 0 _ _ _ (c .before .before .before .before .before .loop .inv .0) (c .before .before .before .before .loop-test .taken) (weight-large _ (c .if2 .taken))
 
 add-i : tie.Need-add-i Inv-loop μ-loop
 add-i c = omega arith
@@ -49,11 +49,11 @@ loop-less : tie.Need-loop-less Inv-loop μ-loop
 loop-less c = omega arith
 
 loop-again : tie.Need-loop-again Inv-loop μ-loop
-loop-again c = (all-on lawful-weight 0 _ _ _ (c .before .before .before .before .loop-test .taken) (weight-right _ (c .before .before .if1 .left) (c .if2 .left)) (c .before .before .before .before .before .loop .inv .0), omega arith)
+loop-again c = (all-on lawful-weight 0 _ _ _ (c .before .before .before .before .before .loop .inv .0) (c .before .before .before .before .loop-test .taken) (weight-right _ (c .before .before .if1 .left) (c .if2 .left)), omega arith)
 
 returns-3 : tie.Need-returns-3 Inv-loop μ-loop
 unfolding weight-unlawful
-returns-3 c = all-end lawful-weight 0 _ _ _ (c .loop-test .left) (c .before .loop .inv .0)
+returns-3 c = all-end lawful-weight 0 _ _ _ (c .before .loop .inv .0) (c .loop-test .left)
 
 pub weight-unlawful-spec : {M : Type 1} → statement M
 weight-unlawful-spec = tie.close (tie.spec Inv-loop μ-loop loop-holds mul-if1 shared-slice-read-if1 returns mul-if2 shared-slice-read-if2 returns-2 add-i loop-less loop-again returns-3)
