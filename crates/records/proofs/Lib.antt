@@ -8,4 +8,5 @@ pub mod Zero
 pub mod Entry
 pub mod Small
 pub mod Leaves
+pub mod Agree
 pub mod Determined

@@ -2,6 +2,7 @@
 -- full mark everywhere. Assumes nothing.
 use mathlib.Core.Path.{_≡_, sym, _∙_}
 use mathlib.Core.List.{List}
+use Prim.Native.Nat.{ℕ}
 use borrow.Fn.Kinds.{Dens, resT, endedOf}
 use denote.Triple.Clauses.{AtExit}
 use contract.Lifetimes.{Lfts}
@@ -12,6 +13,7 @@ use Rattle.numbers.proofs.Determined.{One-result}
 use Rattle.records.specs.Words.{fields}
 use Rattle.records.specs.Carries.{st, on-records, with-record, placed}
 use Rattle.records.proofs.Entry.{Same-end, Same-made, steps-determined, makes-determined}
+use Rattle.records_append.specs.Fresh.{with-numbers}
 use Rattle.records_append.proofs.append.Kinds as append-kinds
 use Rattle.records_append.proofs.append.Reads as append
 use Rattle.records_append.proofs.leaf.Kinds as leaf-kinds
@@ -22,6 +24,8 @@ use Rattle.records_append.proofs.counted.Kinds as counted-kinds
 use Rattle.records_append.proofs.counted.Reads as counted
 use Rattle.records_append.proofs.join.Kinds as join-kinds
 use Rattle.records_append.proofs.join.Reads as join
+use Rattle.records_append.proofs.numbers.Kinds as numbers-kinds
+use Rattle.records_append.proofs.numbers.Reads as numbers
 use Rattle.records_append.proofs.output.Kinds as output-kinds
 use Rattle.records_append.proofs.output.Reads as output
 use Rattle.records_append.proofs.waiting.Kinds as waiting-kinds
@@ -49,6 +53,10 @@ pub join-determined : (κs : Lfts 1) (a : Dens κs join-kinds.ps) (x y : resT jo
     join.Post κs a x e → join.Post κs a y f → (c : List ℤ) →
     Same-made (st (a .0 .now) c (a .1 .0)) (st (e .0 .now) c (x .marks)) (st (f .0 .now) c (y .marks)) (x .node) (y .node) (on-records (λ rs. add rs (joining rs (a .1 .1 .0) (a .1 .1 .1 .0) (a .1 .1 .1 .1 .0))))
 join-determined κs a x y e f p q c = makes-determined _ _ _ _ _ _ (p c) (q c)
+
+pub numbers-determined : (κs : Lfts 0) (a : Dens κs numbers-kinds.ps) (x y : resT numbers-kinds.r κs .Denot) (e f : AtExit (endedOf 0 numbers-kinds.ps numbers-kinds.r) κs) →
+    numbers.Post κs a x e → numbers.Post κs a y f → (s : List ℕ) (c : List ℤ) → Same-end (st s c (a .0)) (st s c x) (st s c y) (with-numbers (a .1 .0))
+numbers-determined κs a x y e f p q s c = steps-determined _ _ _ _ (p .0 s c) (q .0 s c)
 
 pub output-determined : (κs : Lfts 1) (a : Dens κs output-kinds.ps) (x y : resT output-kinds.r κs .Denot) (e f : AtExit (endedOf 1 output-kinds.ps output-kinds.r) κs) →
     output.Post κs a x e → output.Post κs a y f → (c : List ℤ) →

@@ -70,7 +70,8 @@ unfolding define-join
 found-join d n v half l r ps zero t k = absurd (k refl)
 found-join d n v half l r ps (suc x) t k = refl
 
-found-kind : (d : Define) (n v : ℕ) (k : Kind) (t : Arena) → (number-of (t .records) n v ≡ 0 → ⊥) → define-kind d n v k t ≡ t
+-- what is defined is left as it is
+pub found-kind : (d : Define) (n v : ℕ) (k : Kind) (t : Arena) → (number-of (t .records) n v ≡ 0 → ⊥) → define-kind d n v k t ≡ t
 unfolding define-kind
 found-kind d n v (leaf x) t h = refl
 found-kind d n v (join half l r) t h =

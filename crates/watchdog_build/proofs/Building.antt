@@ -1,27 +1,24 @@
 -- The tower of a first build is document 01's first build. Assumes nothing.
 use mathlib.Core.Path.{_≡_, refl, sym, ap, ap₂, _∙_, subst}
-use mathlib.Core.List.{List, [], _∷_, _++_}
-use Prim.Native.Nat.{ℕ, suc, _+_, _-_, _^_, _≤_, _<_}
+use mathlib.Core.List.{List, [], _++_}
+use Prim.Native.Nat.{ℕ, _+_, _-_, _^_, _≤_, _<_}
 use native.Mathlib.Omega.{arith}
 use lib.ListN.{length, take, drop, replicate}
-use lib.IntN.{ℤ}
 use Rattle.rules.specs.declared.State.{State}
 use Rattle.rules.specs.Lists.{sort, rising, padded}
 use Rattle.rules.specs.Digits.{digits, top-bit}
-use Rattle.rules.specs.Records.{Entry, Record}
+use Rattle.rules.specs.Records.{Entry}
 use Rattle.rules.specs.Totalizer.{Arena}
 use Rattle.rules.specs.Build.{Build, restructured, buildOf, build-over, largest, some-wait}
 use Rattle.rules.specs.Queue.{heavier, Sorting, queue-run, gathered}
 use Rattle.rules.specs.Buckets.{buckets-over, build-structure}
 use Rattle.laws.specs.Facts.{All, All-rising, rising-length}
-use Rattle.laws.specs.Formed.{Formed}
 use Rattle.laws.specs.Powers.{below-digits, digits-top, top-bit-mono}
 use Rattle.laws.specs.Runs.{largest-sort}
 use Rattle.laws.specs.Images.{padded-front}
 use Rattle.preserve.specs.Given.{set-positive, weights-few}
 use Rattle.preserve.specs.Sizes.{first-powers-20}
-use Rattle.records.specs.declared.Marks.{Marks}
-use Rattle.records.specs.Carries.{St, st, Fits, Carries, Makes}
+use Rattle.records.specs.Carries.{St, Fits, Carries, Makes}
 use Rattle.watchdog_line.specs.Work.{line, members-from, made-in}
 use Rattle.watchdog_queue.specs.Queued.{Queued}
 use Rattle.watchdog_queue.proofs.Members.{members-empty}

@@ -1,2 +1,3 @@
 -- The laws of a first build.
 pub mod Building
+pub mod Determined

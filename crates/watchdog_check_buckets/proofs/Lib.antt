@@ -1,2 +1,3 @@
 -- The laws of the tests of buckets.
 pub mod Buckets
+pub mod Determined

@@ -1,2 +1,3 @@
 -- The laws of walks over inputs.
 pub mod Inputs
+pub mod Determined

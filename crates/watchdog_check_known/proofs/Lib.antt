@@ -1,2 +1,3 @@
 -- The laws of known kinds.
 pub mod Known
+pub mod Determined

@@ -1,2 +1,3 @@
 -- The laws of the pass over the records.
 pub mod Right
+pub mod Determined

@@ -1,20 +1,19 @@
 -- The order of encode's refusals, and what each end leaves. Assumes nothing.
-use mathlib.Core.Path.{_≡_, refl, sym, ap, ap₂, _∙_, subst}
+use mathlib.Core.Path.{_≡_, refl, sym, ap, ap₂, _∙_}
 use mathlib.Core.Bool.{Bool, true, false, not, _&&_, _||_}
-use mathlib.Core.List.{List, [], _∷_, _++_}
-use Prim.Native.Nat.{ℕ, zero, suc, _+_, _*_, _-_, _≤_, _<_, min}
+use mathlib.Core.List.{List, [], _∷_}
+use Prim.Native.Nat.{ℕ, suc, _+_, _-_, _≤_, _<_}
 use native.Mathlib.Omega.{arith}
-use lib.Dec.{eqb, leb, ltb}
-use lib.ListN.{length, take, replicate, length-append}
-use lib.IntN.{ℤ, pos}
-use borrow.Author.Tests.{eq-eqb, ne-eqb, le-ltb, lt-ltb}
+use lib.Dec.{ltb}
+use lib.ListN.{length}
+use lib.IntN.{ℤ}
+use borrow.Author.Tests.{le-ltb, lt-ltb}
 use Rattle.rules.specs.declared.State.{State}
-use Rattle.rules.specs.Numbers.{capacity, work-words, most-variable}
+use Rattle.rules.specs.Numbers.{capacity, most-variable}
 use Rattle.rules.specs.Refusals.{first-of}
-use Rattle.rules.specs.Build.{Build, records, clause-words, clause-total, clause-mark, buildOf, build-over, unbuilt, largest, with-arena, restructured}
-use Rattle.rules.specs.Refinement.{due}
+use Rattle.rules.specs.Build.{Build, records, clause-words, clause-mark, buildOf, build-over}
 use Rattle.rules.specs.WellFormed.{well-formed, not-well-formed}
-use Rattle.rules.specs.Encode.{EncodeEnd, prepared, encode-outputs, nothing-asked, encode, nothing-done, work-short, divisor-above, no-room, encode-refusal, untouched, no-room-end, encoded-end, encode-end, encode-ub-change}
+use Rattle.rules.specs.Encode.{nothing-asked, encode, nothing-done, work-short, divisor-above, no-room, encode-refusal, untouched, no-room-end, encoded-end, encode-end, encode-ub-change}
 use Rattle.laws.specs.Formed.{WellFormed}
 use Rattle.watchdog_entry.proofs.Begin.{all-count}
 

@@ -2,33 +2,30 @@
 use mathlib.Core.Path.{_≡_, refl, sym, ap, ap₂, _∙_, subst}
 use mathlib.Core.Logic.{_⊎_, inl, inr, _≢_}
 use mathlib.Core.Bool.{Bool, true, false, not, _&&_, true≢false}
-use mathlib.Core.List.{List, [], _∷_, _++_, map, reverse}
-use Prim.Native.Nat.{ℕ, zero, suc, _+_, _*_, _-_, _/_, _≤_, _<_, min}
+use mathlib.Core.List.{List, _++_, map, reverse}
+use Prim.Native.Nat.{ℕ, _+_, _*_, _-_, _≤_, _<_}
 use native.Mathlib.Omega.{arith}
-use lib.ListN.{length, getD, take, drop, replicate, length-append}
-use lib.Dec.{eqb}
-use borrow.Author.Tests.{eq-eqb, eqb-true}
+use lib.ListN.{length, getD, take, replicate}
+use borrow.Author.Tests.{eq-eqb}
 use Rattle.rules.specs.WellFormed.{well-formed}
-use lib.Seq.{getD-take, length-take-le, take-take}
+use lib.Seq.{getD-take}
 use lib.IntN.{ℤ, pos}
 use Rattle.rules.specs.declared.State.{State}
 use Rattle.rules.specs.declared.Encoded.{Encoded}
-use Rattle.rules.specs.Lists.{padded, rising}
+use Rattle.rules.specs.Lists.{padded}
 use Rattle.rules.specs.Numbers.{capacity}
 use Rattle.rules.specs.Records.{imageOf, Record, Entry, waiting, waits}
-use Rattle.rules.specs.Totalizer.{Arena}
 use Rattle.rules.specs.Build.{Build, records, clause-words, clause-total, clause-mark, stateOf, buildOf, build-over, buckets-of, unbuilt, with-arena, restructured}
 use Rattle.rules.specs.Buckets.{build-structure}
 use Rattle.rules.specs.Refinement.{due, patched, merge-structures}
 use Rattle.rules.specs.Encode.{EncodeEnd, prepared, encode-outputs, nothing-asked, encode, nothing-done, divisor-above, no-room, encoded, untouched, no-room-end, encoded-end, encode-ub-change}
-use Rattle.laws.specs.Facts.{All, All-map, occurs}
-use Rattle.laws.specs.Formed.{Formed, WellFormed}
+use Rattle.laws.specs.Facts.{All, All-map}
+use Rattle.laws.specs.Formed.{WellFormed}
 use Rattle.laws.specs.Whole.{well-formed-facts}
 use Rattle.preserve.specs.Given.{buckets-inside}
 use Rattle.preserve.specs.Refinements.{merged-fresh}
 use Rattle.preserve.specs.Encodes.{encode-fresh}
-use Rattle.preserve.specs.Sounds.{Sounds, encode-sound}
-use Rattle.records.specs.declared.Marks.{Marks}
+use Rattle.preserve.specs.Sounds.{encode-sound}
 use Rattle.records.specs.Carries.{St, st, written, Fits, Holds, Stores, with-records}
 use Rattle.records.proofs.Grow.{fits-or}
 use Rattle.records.proofs.Entry.{held-zeroed}
@@ -37,7 +34,6 @@ use Rattle.watchdog_entry.specs.declared.Structure.{Structure}
 use Rattle.watchdog_entry.specs.Named.{begun}
 use Rattle.watchdog_entry.proofs.Begin.{count-is, stored}
 use Rattle.watchdog_undo.specs.Aside.{Aside, But}
-use Rattle.watchdog_save.specs.Copies.{Saved}
 use Rattle.watchdog_save.proofs.Copying.{front-same}
 use Rattle.watchdog_reach.specs.Starts.{Starts}
 use Rattle.watchdog_reach.specs.Reached.{whole, Has, Reached}

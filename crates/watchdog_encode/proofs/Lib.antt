@@ -5,3 +5,4 @@ pub mod Ends
 pub mod States
 pub mod Tests
 pub mod Finals
+pub mod Determined

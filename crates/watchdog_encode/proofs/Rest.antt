@@ -7,32 +7,21 @@ use native.Mathlib.Omega.{arith}
 use lib.Dec.{eqb}
 use borrow.Author.Tests.{eqb-true, eqb-false}
 use Rattle.rules.specs.Lists.{all, in-turn}
-use Rattle.rules.specs.Records.{Kind, leaf, join, dummy, Record, nodeAt}
+use Rattle.rules.specs.Records.{Kind, leaf, join, dummy, nodeAt}
 use Rattle.rules.specs.Totalizer.{Arena, Define, counts, pairs, number-of, write, take-number, ask-pair, define-join, define-kind, define, define-output}
 use Rattle.records.proofs.Grow.{Grows}
+use Rattle.totalizer.proofs.Defining.{found-kind}
 use Rattle.totalizer.proofs.Growth.{turns-grow, output-grows, pair-grows, define-grows}
 use Rattle.watchdog_outputs.specs.Values.{all-defined}
 
 -- a defined output is left as it is
-join-defined : (d : Define) (n v : ℕ) (half : Bool) (l r : ℕ) (ps : List (ℕ × ℕ)) (x : ℕ) (s : Arena) → (x ≡ 0 → ⊥) → define-join d n v half l r ps x s ≡ s
-unfolding define-join
-join-defined d n v half l r ps zero s h = absurd (h refl)
-join-defined d n v half l r ps (suc x) s h = refl
-
-kind-defined : (d : Define) (n v : ℕ) (k : Kind) (s : Arena) → (number-of (s .records) n v ≡ 0 → ⊥) → define-kind d n v k s ≡ s
-unfolding define-kind
-kind-defined d n v (leaf x) s h = refl
-kind-defined d n v (join half l r) s h =
-    join-defined d n v half l r (pairs (nodeAt (s .records) l .maximum) (counts half (nodeAt (s .records) r .maximum)) v) (number-of (s .records) n v) s h
-kind-defined d n v dummy s h = refl
-
 output-defined : (s : Arena) (n v : ℕ) → (number-of (s .records) n v ≡ 0 → ⊥) → define-output s n v ≡ s
 unfolding define-output define
 output-defined s n v h = go (nodeAt (s .records) n .height)
   where
     go : (f : ℕ) → define f s n v ≡ s
     go zero = refl
-    go (suc f) = kind-defined (define f) n v (nodeAt (s .records) n .kind) s h
+    go (suc f) = found-kind (define f) n v (nodeAt (s .records) n .kind) s h
 
 -- an output of a join that is not, takes a number
 join-taken : (d : Define) → ((t : Arena) (n v : ℕ) → Grows t (d t n v)) → (n v : ℕ) (half : Bool) (l r : ℕ) (ps : List (ℕ × ℕ)) (x : ℕ) (s : Arena) → x ≡ 0 →

@@ -1,23 +1,21 @@
 -- What encode reaches fits exactly where refusal 7 does not hold. Assumes nothing.
-use mathlib.Core.Path.{_≡_, refl, sym, ap, ap₂, _∙_, subst}
-use mathlib.Core.Bool.{Bool, true, false, not, _||_, true≢false}
-use mathlib.Core.List.{List, [], _∷_, _++_, map}
-use Prim.Native.Nat.{ℕ, suc, _+_, _*_, _≤_, _<_, min}
+use mathlib.Core.Path.{_≡_, refl, sym, ap₂, _∙_, subst}
+use mathlib.Core.Bool.{Bool, true, false, _||_}
+use mathlib.Core.List.{List}
+use Prim.Native.Nat.{ℕ, suc, _≤_, _<_}
 use native.Mathlib.Omega.{arith}
 use lib.Dec.{ltb}
 use lib.ListN.{length, length-append, take}
 use lib.Seq.{length-take-le}
 use lib.IntN.{ℤ}
-use borrow.Author.Tests.{ltb-true, ltb-false, le-ltb}
-use Rattle.rules.specs.declared.State.{State}
+use borrow.Author.Tests.{ltb-false, le-ltb}
 use Rattle.rules.specs.Numbers.{capacity, most-variable}
-use Rattle.rules.specs.Records.{Record, waiting}
+use Rattle.rules.specs.Records.{Record}
 use Rattle.rules.specs.Totalizer.{Arena}
 use Rattle.rules.specs.Build.{Build, records, clause-words, clause-mark}
 use Rattle.rules.specs.Encode.{no-room}
-use Rattle.laws.specs.Facts.{neither}
 use Rattle.records.specs.declared.Marks.{Marks}
-use Rattle.records.specs.Carries.{St, st, written, Fits, peak, with-records}
+use Rattle.records.specs.Carries.{st, written, Fits, peak, with-records}
 use Rattle.records.proofs.Small.{room-fits, fits-room, peak-sound}
 use Rattle.preserve.specs.Sounds.{Sounds}
 use Rattle.watchdog_outputs.specs.Taken.{with-waiting}

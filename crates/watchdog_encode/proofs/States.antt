@@ -1,19 +1,14 @@
 -- What every way of encode keeps of a build, and the state that it ends with. Assumes nothing.
 use mathlib.Core.Path.{_≡_, refl, sym, ap, ap₂, _∙_}
-use mathlib.Core.Bool.{Bool, true, false, not, _&&_}
-use mathlib.Core.List.{List, [], _∷_, _++_, map}
-use Prim.Native.Nat.{ℕ, _+_, _*_, _-_, _≤_, _<_}
-use native.Mathlib.Omega.{arith}
-use lib.Dec.{eqb, leb}
+use mathlib.Core.Bool.{Bool, true, false}
+use mathlib.Core.List.{List}
+use Prim.Native.Nat.{ℕ, _-_}
 use lib.ListN.{length}
-use lib.IntN.{ℤ}
 use Rattle.rules.specs.declared.State.{State}
 use Rattle.rules.specs.Lists.{padded}
-use Rattle.rules.specs.Records.{Entry}
-use Rattle.rules.specs.Totalizer.{Arena}
-use Rattle.rules.specs.Build.{Build, records, clause-words, clause-total, clause-mark, variable-total, stateOf, buildOf, build-over, restructured, with-arena, unbuilt, largest}
+use Rattle.rules.specs.Build.{Build, records, clause-total, clause-mark, variable-total, stateOf, restructured, with-arena}
 use Rattle.rules.specs.Buckets.{build-structure}
-use Rattle.rules.specs.Refinement.{due, patched, merge-structures}
+use Rattle.rules.specs.Refinement.{patched, merge-structures}
 use Rattle.rules.specs.Encode.{prepared, encode-outputs, nothing-asked, encode}
 use Rattle.watchdog_encode.specs.Busy.{stated}
 

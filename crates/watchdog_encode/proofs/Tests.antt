@@ -1,17 +1,17 @@
 -- The tests of an encode by the words: what is asked, what is due, what is already defined. Assumes nothing.
 use mathlib.Core.Path.{_≡_, refl, sym, ap, ap₂, _∙_, subst}
 use mathlib.Core.Logic.{_≢_}
-use mathlib.Core.Bool.{Bool, true, false, not, _&&_, _||_, true≢false, false≢true}
+use mathlib.Core.Bool.{Bool, true, false, not, _&&_, _||_, false≢true}
 use mathlib.Core.List.{List, [], _∷_, _++_, map, append-nil}
-use Prim.Native.Nat.{ℕ, zero, suc, _+_, _-_, _/_, _^_, _≤_, _<_, max}
+use Prim.Native.Nat.{ℕ, _+_, _-_, _≤_, _<_}
 use native.Mathlib.Omega.{arith}
 use lib.Dec.{eqb, leb, ltb}
-use lib.ListN.{length, getD, take}
+use lib.ListN.{length, getD}
 use lib.IntN.{ℤ}
 use borrow.Author.Tests.{eqb-true, eqb-false, eq-eqb, ne-eqb, leb-true, leb-false, le-leb, lt-leb, ltb-false, le-ltb, lt-ltb}
 use Rattle.rules.specs.declared.State.{State}
 use Rattle.rules.specs.Lists.{all, in-turn, rising}
-use Rattle.rules.specs.Records.{join, Node, Output, Record, Entry, waiting, nodeAt, outputs}
+use Rattle.rules.specs.Records.{join, Node, Output, Record, waiting, nodeAt, outputs}
 use Rattle.rules.specs.Totalizer.{Arena, number-in, number-of, define-output}
 use Rattle.rules.specs.Build.{Build, buildOf, build-over, unbuilt, largest, root, root-node, output-weight, with-arena, restructured}
 use Rattle.rules.specs.Buckets.{build-structure}
@@ -25,7 +25,7 @@ use Rattle.preserve.specs.Given.{set-positive, waiting-below}
 use Rattle.records.specs.Carries.{Stores}
 use Rattle.watchdog_entry.proofs.Begin.{stored}
 use Rattle.watchdog_outputs.specs.Values.{values, all-defined}
-use Rattle.watchdog_reach.proofs.Ways.{first-way, refined-way, same-way, stands, stands-built, largest-by}
+use Rattle.watchdog_reach.proofs.Ways.{first-way, refined-way, stands, stands-built}
 use Rattle.watchdog_reach.proofs.Standing.{tares-count, root-is}
 use Rattle.watchdog_encode.proofs.Rest.{all-idle, some-taken}
 use Rattle.watchdog_encode.proofs.Ends.{self-room}

@@ -8,7 +8,7 @@ ghost use lib.ListN.{length, take, replicate};
 ghost use lib.IntN.{ℤ, pos};
 ghost use Rattle.rules.specs.Lists.{padded};
 ghost use Rattle.rules.specs.Build.{buildOf, buckets-of, largest};
-ghost use Rattle.rules.specs.Encode.{EncodeEnd, prepared, nothing-asked, encode, nothing-done, divisor-above, encoded, encode-ub-change};
+ghost use Rattle.rules.specs.Encode.{prepared, nothing-asked, encode, nothing-done, divisor-above, encoded, encode-ub-change};
 ghost use Rattle.laws.specs.Facts.{All};
 ghost use Rattle.laws.specs.Formed.{WellFormed};
 ghost use Rattle.watchdog_undo.specs.Aside.{Aside, But};

@@ -1,25 +1,22 @@
 -- A well formed build carries itself: its nodes and outputs, with what waits seen as free words. Assumes nothing.
-use mathlib.Core.Path.{_≡_, refl, sym, ap, ap₂, _∙_, subst}
-use mathlib.Core.Bool.{Bool, true, false, not}
-use mathlib.Core.List.{List, [], _∷_, _++_, map}
-use Prim.Native.Nat.{ℕ, zero, suc, _+_, _*_, _-_, _/_, _≤_, _<_, min}
+use mathlib.Core.Path.{_≡_, refl, sym, ap, _∙_, subst}
+use mathlib.Core.List.{List, [], _++_, map}
+use Prim.Native.Nat.{ℕ, _+_, _*_, _-_, _≤_, _<_}
 use native.Mathlib.Omega.{arith}
 use lib.ListN.{length, length-append, length-map, take, drop}
-use lib.Seq.{take-append-seam, take-at, take-take}
+use lib.Seq.{take-append-seam, take-at}
 use lib.IntN.{ℤ}
 use Rattle.rules.specs.declared.State.{State}
-use Rattle.rules.specs.Lists.{all, keep}
+use Rattle.rules.specs.Lists.{all}
 use Rattle.rules.specs.Numbers.{capacity}
-use Rattle.rules.specs.Records.{Entry, Record, waiting, waits, nodeAt, entries, imageOf, recordsOf}
-use Rattle.rules.specs.Totalizer.{Arena}
+use Rattle.rules.specs.Records.{Record, waiting, imageOf, recordsOf}
 use Rattle.rules.specs.Build.{Build, records, clause-total, clause-mark, clause-words, build-over, buildOf, held}
 use Rattle.rules.specs.WellFormed.{known}
-use Rattle.laws.specs.Facts.{All, facts-all}
+use Rattle.laws.specs.Facts.{facts-all}
 use Rattle.laws.specs.Words.{image-of-records}
 use Rattle.laws.specs.Images.{records-more}
 use Rattle.laws.specs.Whole.{records-length}
-use Rattle.laws.specs.Formed.{Formed, WellFormed}
-use Rattle.records.specs.declared.Marks.{Marks}
+use Rattle.laws.specs.Formed.{WellFormed}
 use Rattle.records.specs.Carries.{St, st, Carries, Lent, read-arena, Stores, peak}
 use Rattle.records.proofs.Entry.{begins}
 use Rattle.records.proofs.Small.{peak-sound}

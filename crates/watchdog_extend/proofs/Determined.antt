@@ -1,7 +1,6 @@
 -- Any two results that the promise of a public function allows are equal, wherever the arena that it leads to fits; they agree on the
 -- full mark everywhere. Assumes nothing.
-use mathlib.Core.Path.{_≡_, sym, _∙_}
-use mathlib.Core.Logic.{_⊎_, inl, inr}
+use mathlib.Core.Path.{_≡_}
 use mathlib.Core.List.{List, map, reverse}
 use Prim.Native.Nat.{_≤_}
 use lib.ListN.{length, take}
@@ -12,25 +11,13 @@ use Rattle.rules.specs.Lists.{in-turn}
 use Rattle.rules.specs.Records.{Record, outputs}
 use Rattle.rules.specs.Totalizer.{Arena}
 use Rattle.rules.specs.Refinement.{former-half, extend-bucket as extend-bucket-rule}
-use Rattle.records.specs.Carries.{St, st, marksOf, Fits, Carries}
-use Rattle.records.proofs.Grow.{fits-or}
-use Rattle.records.proofs.Entry.{holds-same}
+use Rattle.records.specs.Carries.{St, st, Carries}
+use Rattle.records.proofs.Agree.{Agree, carries-same}
 use Rattle.watchdog_extend.specs.Old.{extend-each}
 use Rattle.watchdog_extend.proofs.extend_bucket.Kinds as extend-bucket-kinds
 use Rattle.watchdog_extend.proofs.extend_bucket.Reads as extend-bucket
 use Rattle.watchdog_extend.proofs.extend_buckets.Kinds as extend-buckets-kinds
 use Rattle.watchdog_extend.proofs.extend_buckets.Reads as extend-buckets
-
--- two memories that carry the same agree: word for word where it fits, and on the full mark
-abbrev pub Agree : St → St → St → Arena → Type 0
-Agree e τ τ′ t = (Fits e t → τ ≡ τ′) × (marksOf τ .full ≡ marksOf τ′ .full)
-
-carries-same : (e τ τ′ : St) (t : Arena) → Carries e τ t → Carries e τ′ t → Agree e τ τ′ t
-carries-same e τ τ′ t h k = (λ f. holds-same e τ τ′ t (h .fit f) (k .fit f), go (fits-or e t))
-  where
-    go : Fits e t ⊎ (Fits e t → ⊥) → marksOf τ .full ≡ marksOf τ′ .full
-    go (inl f) = h .fit f .not-full ∙ sym (k .fit f .not-full)
-    go (inr f) = h .full f ∙ sym (k .full f)
 
 pub extend-bucket-determined : (κs : Lfts 2) (a : Dens κs extend-bucket-kinds.ps) (x y : resT extend-bucket-kinds.r κs .Denot) (e f : AtExit (endedOf 2 extend-bucket-kinds.ps extend-bucket-kinds.r) κs) →
     extend-bucket.Post κs a x e → extend-bucket.Post κs a y f → (b : St) (t : Arena) → Carries b (st (a .0 .now) (a .1 .0 .now) (a .1 .1 .0)) t → a .1 .1 .1 .0 ≤ length (t .records) →

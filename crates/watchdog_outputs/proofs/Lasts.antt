@@ -1,14 +1,14 @@
 -- Outputs and then what waits, over a build whose root, tares and queue are named. Assumes nothing.
-use mathlib.Core.Path.{_≡_, refl, sym, ap, ap₂, _∙_, subst}
+use mathlib.Core.Path.{_≡_, refl, ap, ap₂, _∙_, subst}
 use mathlib.Core.Logic.{_⊎_, inl, inr}
-use mathlib.Core.List.{List, [], _∷_, _++_, map}
-use Prim.Native.Nat.{ℕ, _≤_}
+use mathlib.Core.List.{List, map}
+use Prim.Native.Nat.{ℕ}
 use lib.ListN.{length}
 use Rattle.rules.specs.Records.{Entry, waiting, nodeAt}
 use Rattle.rules.specs.Totalizer.{Arena, define-output}
 use Rattle.rules.specs.Build.{Build, root, root-node, output-weight, with-arena, restructured}
 use Rattle.rules.specs.Encode.{root-values, encode-outputs}
-use Rattle.records.specs.Carries.{St, Fits, Carries, Steps, with-records}
+use Rattle.records.specs.Carries.{St, Fits, Carries, Steps}
 use Rattle.records.proofs.Grow.{Grows, grows-trans, fits-less, fits-or, records-more}
 use Rattle.records.proofs.Step.{over}
 use Rattle.totalizer.proofs.Growth.{turns-grow, output-grows}

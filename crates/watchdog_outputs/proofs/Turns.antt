@@ -1,22 +1,20 @@
 -- The values of a range, outputs found in turn, entries taken in turn. Assumes nothing.
 use mathlib.Core.Path.{_≡_, refl, sym, ap, ap₂, _∙_}
 use mathlib.Core.Bool.{Bool, true, false, not, _&&_}
-use mathlib.Core.List.{List, [], _∷_, _++_, map, append-assoc, append-nil}
+use mathlib.Core.List.{List, [], _∷_, map, append-assoc, append-nil}
 use Prim.Native.Nat.{ℕ, zero, suc, _+_, _*_, _-_, _/_, _%_, _^_, _≤_, _<_, min}
 use native.Mathlib.Omega.{arith}
 use native.Mathlib.Nat.{div-lt-iff-lt-mul}
-use lib.Dec.{eqb}
 use lib.ListN.{getD}
 use lib.IntN.{pos}
 use borrow.Author.Tests.{eq-eqb, ne-eqb}
 use Rattle.rules.specs.Lists.{all, in-turn, rising}
-use Rattle.rules.specs.Records.{Record, Entry, waiting, literal-word, nodeAt}
+use Rattle.rules.specs.Records.{Record, waiting, literal-word, nodeAt}
 use Rattle.rules.specs.Totalizer.{Arena, number-of, define-output}
 use Rattle.numbers.proofs.Bits.{power-whole}
 use Rattle.records.specs.declared.Marks.{Marks}
 use Rattle.records.specs.Words.{word-at}
 use Rattle.records.specs.Carries.{St, st, marksOf, Steps, Stores, with-record, with-records}
-use Rattle.records.proofs.Grow.{Grows}
 use Rattle.records.proofs.Step.{Rest, rest-turn, stop, held}
 use Rattle.totalizer.proofs.Growth.{turns-grow, output-grows}
 use Rattle.watchdog_outputs.specs.Values.{values, outputs-of, all-defined}

@@ -1,5 +1,5 @@
--- Any two results that the promise of a public function allows are the same queue: of `gather` with its members, wherever the arena that it
--- leads to fits, and the same full mark everywhere. Assumes nothing.
+-- Any two results that the promise of a public function allows are the same weight or the same queue: of `gather` with its members,
+-- wherever the arena that it leads to fits, and the same full mark everywhere. Assumes nothing.
 use mathlib.Core.Path.{_≡_, sym, _∙_}
 use mathlib.Core.List.{List, _++_, map}
 use Prim.Native.Nat.{ℕ, _^_, _≤_, _<_}
@@ -12,14 +12,20 @@ use lib.ListN.{length, drop}
 use Rattle.rules.specs.Records.{Record, Entry, waiting}
 use Rattle.rules.specs.Build.{largest}
 use Rattle.rules.specs.Queue.{queue-run}
+use Rattle.numbers.proofs.Determined.{One-result}
 use Rattle.records.specs.Carries.{st, Stores}
 use Rattle.records.proofs.Entry.{Same-made, makes-determined}
 use Rattle.watchdog_line.specs.Work.{line, members-from}
 use Rattle.watchdog_queue.specs.Queued.{sorting}
+use Rattle.watchdog_queue.proofs.weight.Kinds as weight-kinds
+use Rattle.watchdog_queue.proofs.weight.Reads as weight
 use Rattle.watchdog_queue.proofs.gather.Kinds as gather-kinds
 use Rattle.watchdog_queue.proofs.gather.Reads as gather
 use Rattle.watchdog_queue.proofs.enqueue.Kinds as enqueue-kinds
 use Rattle.watchdog_queue.proofs.enqueue.Reads as enqueue
+
+pub weight-determined : One-result 1 weight-kinds.ps weight-kinds.r weight.Post
+weight-determined κs a x y e f p q = p ∙ sym q
 
 pub gather-determined : (κs : Lfts 2) (a : Dens κs gather-kinds.ps) (x y : resT gather-kinds.r κs .Denot) (e f : AtExit (endedOf 2 gather-kinds.ps gather-kinds.r) κs) →
     gather.Post κs a x e → gather.Post κs a y f → (c : List ℤ) (n : ℕ) → n ≤ 20 → largest (line (a .1 .0 .now) (a .1 .1 .1 .0)) < 2 ^ n →

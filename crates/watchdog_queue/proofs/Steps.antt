@@ -4,7 +4,6 @@ use mathlib.Core.Logic.{_≢_, _⊎_, inl, inr}
 use mathlib.Core.List.{List, [], _∷_, _++_, map}
 use Prim.Native.Nat.{ℕ, zero, suc, _+_, _-_, _%_, _^_, _≤_, _<_}
 use native.Mathlib.Omega.{arith}
-use native.Mathlib.Nat.{mod-eq-of-lt}
 use lib.Pow.{pow-pos}
 use lib.ListN.{length, getD, set, take, drop, length-map}
 use lib.Seq.{getD-drop}
@@ -20,6 +19,7 @@ use Rattle.laws.specs.Sorts.{Ordered, ordered-insert}
 use Rattle.laws.specs.Powers.{top-bit-within, top-bit-below}
 use Rattle.laws.specs.Runs.{heavier-order, largest-all, all-largest, others-less, requeue-all, run-some}
 use Rattle.laws.specs.Loads.{load, load-step, nodes-of}
+use Rattle.numbers.proofs.Bits.{power-whole}
 use Rattle.records.specs.declared.Marks.{Marks}
 use Rattle.records.specs.Carries.{St, st, Makes, on-records, with-records}
 use Rattle.records.proofs.Grow.{le-or}
@@ -33,7 +33,7 @@ use Rattle.watchdog_queue.proofs.Members.{members-length, members-get, 
 -- 2 to the top bit, as it is computed
 pub top-power : (w k p : ℕ) → 1 ≤ w → w < 4294967296 → k ≡ top-bit w → p ≡ 2 ^ k % 2 ^ 64 → p ≡ 2 ^ top-bit w
 top-power w k p h i e q =
-    q ∙ (ap (λ (k : ℕ). 2 ^ k % 2 ^ 64) e ∙ mod-eq-of-lt (omega (arith, top-bit-within w h)))
+    power-whole k p (omega (arith, top-bit-below 32 w h i, e)) q ∙ ap (λ (k : ℕ). 2 ^ k) e
 
 pub top-within : (w k p : ℕ) → 1 ≤ w → w < 4294967296 → k ≡ top-bit w → p ≡ 2 ^ k % 2 ^ 64 → p ≤ w
 top-within w k p h i e q = omega (arith, top-power w k p h i e q, top-bit-within w h)

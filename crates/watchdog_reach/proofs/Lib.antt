@@ -3,3 +3,4 @@ pub mod Reaching
 pub mod Standing
 pub mod Ways
 pub mod Renewed
+pub mod Determined

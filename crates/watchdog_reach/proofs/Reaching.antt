@@ -1,20 +1,18 @@
 -- What is carried over an entry changed in place is reached over the entry itself; the queue by its words. Assumes nothing.
 use mathlib.Core.Path.{_≡_, refl, sym, ap, ap₂, _∙_, subst}
-use mathlib.Core.Bool.{Bool, true, false}
-use mathlib.Core.List.{List, [], _∷_, _++_, map}
-use Prim.Native.Nat.{ℕ, zero, suc, _+_, _*_, _-_, _/_, _≤_, _<_}
+use mathlib.Core.List.{List, [], _∷_, map}
+use Prim.Native.Nat.{ℕ, zero, suc, _+_, _*_, _-_, _≤_, _<_}
 use native.Mathlib.Omega.{arith}
-use lib.ListN.{length, getD, take, drop, length-append, length-drop}
-use lib.Seq.{getD-take, getD-drop, length-take-le, drop-drop, take-at}
+use lib.ListN.{length, getD, take, drop}
+use lib.Seq.{getD-take, getD-drop, drop-drop}
 use lib.IntN.{ℤ}
-use Rattle.rules.specs.Lists.{padded}
-use Rattle.rules.specs.Records.{Entry, Record, waiting, record-image, imageOf}
+use Rattle.rules.specs.Records.{Entry, waiting, record-image, imageOf}
 use Rattle.rules.specs.Totalizer.{Arena}
 use Rattle.rules.specs.Build.{Build, with-arena, restructured, root}
 use Rattle.rules.specs.Encode.{encode-outputs}
 use Rattle.laws.specs.Images.{drop-take}
 use Rattle.records.specs.declared.Marks.{Marks}
-use Rattle.records.specs.Carries.{St, st, storeOf, bufferOf, marksOf, Fits, Holds, Carries}
+use Rattle.records.specs.Carries.{St, bufferOf, Fits, Carries}
 use Rattle.records.proofs.Grow.{Grows, grows-trans, fits-less}
 use Rattle.watchdog_line.specs.Work.{line, line-from}
 use Rattle.watchdog_outputs.specs.Values.{outputs-of}

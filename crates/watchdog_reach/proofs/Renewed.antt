@@ -1,11 +1,11 @@
 -- What was built or refined anew is finished and reached. Assumes nothing.
-use mathlib.Core.Path.{_≡_, refl, sym, ap, ap₂, _∙_, subst}
+use mathlib.Core.Path.{_≡_, refl, sym, ap, _∙_, subst}
 use mathlib.Core.List.{List, [], _∷_, _++_, append-nil}
-use Prim.Native.Nat.{ℕ, zero, suc, _+_, _*_, _-_, _≤_, _<_}
+use Prim.Native.Nat.{ℕ, zero, suc, _+_, _-_, _≤_}
 use native.Mathlib.Omega.{arith}
 use lib.ListN.{length, getD, take, drop, replicate, length-drop, drop-of-length-le}
 use lib.Seq.{drop-at, length-take-le}
-use borrow.Rule.Slice.PartMut.{putMid, take-put, same-len-mid}
+use borrow.Rule.Slice.PartMut.{putMid}
 use Rattle.rules.specs.Lists.{padded}
 use Rattle.rules.specs.Build.{Build, root}
 use Rattle.rules.specs.Encode.{prepared, encode-outputs}
@@ -13,10 +13,9 @@ use Rattle.records.specs.declared.Marks.{Marks}
 use lib.IntN.{ℤ}
 use Rattle.records.specs.Carries.{St, st, Fits, Carries}
 use Rattle.watchdog_outputs.specs.Taken.{entries-by, with-waiting}
-use Rattle.watchdog_refine.specs.Refined.{Renews}
 use Rattle.watchdog_entry.specs.declared.Structure.{Structure}
 use Rattle.watchdog_entry.specs.Named.{Named}
-use Rattle.watchdog_reach.specs.Reached.{Structured, Has, Reached}
+use Rattle.watchdog_reach.specs.Reached.{Structured, Reached}
 use Rattle.watchdog_reach.proofs.Reaching.{reached, line-by}
 
 -- the words from 3072 on, put back

@@ -1,21 +1,20 @@
 -- What stands is reached with its own tares, buckets and queue. Assumes nothing.
-use mathlib.Core.Path.{_≡_, refl, sym, ap, ap₂, _∙_, subst}
+use mathlib.Core.Path.{_≡_, sym, ap, _∙_}
 use mathlib.Core.Logic.{_≢_}
-use mathlib.Core.List.{List, [], _∷_, _++_, map}
-use Prim.Native.Nat.{ℕ, suc, _+_, _*_, _-_, _≤_, _<_}
+use mathlib.Core.List.{List, _++_, map}
+use Prim.Native.Nat.{ℕ, _+_, _*_, _-_, _≤_}
 use native.Mathlib.Omega.{arith}
 use lib.ListN.{length, getD, take, drop}
 use lib.Seq.{getD-take, drop-append-seam}
 use lib.IntN.{ℤ}
 use Rattle.rules.specs.declared.State.{State}
-use Rattle.rules.specs.Lists.{padded}
-use Rattle.rules.specs.Records.{Entry, Record, waiting, imageOf}
+use Rattle.rules.specs.Records.{Record, waiting, imageOf}
 use Rattle.rules.specs.Build.{Build, buildOf, build-over, tares-of, buckets-of, root}
 use Rattle.laws.specs.Formed.{WellFormed}
 use Rattle.laws.specs.Reads.{slots-count}
 use Rattle.laws.specs.Images.{image-append, drop-take}
 use Rattle.laws.specs.Words.{image-length}
-use Rattle.records.specs.Carries.{St, st, Carries}
+use Rattle.records.specs.Carries.{st, Carries}
 use Rattle.watchdog_outputs.specs.Taken.{entries-by}
 use Rattle.watchdog_entry.specs.declared.Structure.{Structure}
 use Rattle.watchdog_entry.specs.Named.{begun}

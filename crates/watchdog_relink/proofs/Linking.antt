@@ -19,6 +19,8 @@ use Rattle.records.specs.Words.{put-record}
 use Rattle.records.specs.Carries.{Stores, size, peak}
 use Rattle.records.proofs.Lay.{laid-front}
 use Rattle.records.proofs.Entry.{patched}
+use Rattle.watchdog_relink.specs.declared.Bucket.{Bucket}
+use Rattle.watchdog_relink.specs.Patched.{bucket-words}
 use Rattle.watchdog_relink.specs.Linked.{Lies, renewed, linked, Links, Relinks}
 use Rattle.watchdog_relink.proofs.Slots.{reverse-last, slot-fact, slot-stands}
 use Rattle.watchdog_relink.proofs.Renewing.{linked-length, relink-first, peak-set, peak-linked}
@@ -56,6 +58,12 @@ put-other s n ws i eight ne = go (ltb n (length s / 8)) refl
     go : (b : Bool) → ltb n (length s / 8) ≡ b → getD (cond b (take (8 * n) s ++ (ws ++ tail)) s) i 0 ≡ getD s i 0
     go true e = let k : n < length s / 8 = ltb-true n (length s / 8) e in side (ltb i (8 * n)) refl (omega arith)
     go false e = refl
+
+-- the words of a bucket that was patched
+pub bucket-put : (s s′ : List ℕ) (n : ℕ) (x : Bucket) (l below top high : ℕ) →
+    x ≡ record { left = l; right = below; maximum = top; height = high } → s′ ≡ put-record s n (bucket-words x) →
+    s′ ≡ put-record s n (2 ∷ l ∷ below ∷ 1 ∷ top ∷ high ∷ 0 ∷ 0 ∷ [])
+bucket-put s s′ n x l below top high e p = p ∙ ap (λ (z : Bucket). put-record s n (bucket-words z)) e
 
 -- A bucket, by what was read of the records ---------------------------------------------------------------------------------------
 

@@ -6,8 +6,52 @@ ghost use lib.ListN.{length, take, drop, replicate};
 ghost use Rattle.rules.specs.Records.{Record};
 ghost use Rattle.rules.specs.Refinement.{former-half};
 ghost use Rattle.records.specs.Carries.{Stores};
+ghost use Rattle.records.specs.Words.{put-record};
 ghost use Rattle.watchdog_relink.specs.Linked.{Links, Relinks};
+ghost use Rattle.watchdog_relink.specs.Patched.{with-right, bucket-words};
 use records::Fields;
+
+// What the record of a bucket holds: its right side, the bucket below or a dummy, stands halved.
+pub struct Bucket {
+    pub left: u32,
+    pub right: u32,
+    pub maximum: u32,
+    pub height: u32,
+}
+
+// The right link of a bucket lent, set to the bucket below; all other fields are kept. Constant time.
+pub fn patch(b: &mut Bucket, below: u32)
+    ensures { λ _. ⌜ now (b .exit) ≡ with-right (now (b .entry)) below ⌝ }
+{
+    b.right = below;
+}
+
+// The bucket, lent to `patch` and handed back. Constant time.
+fn patched(b: Bucket, below: u32) -> Bucket
+    ensures { λ r. ⌜ r ≡ with-right b below ⌝ }
+{
+    let mut lent = b;
+    patch(&mut lent, below);
+    lent
+}
+
+// The words of a bucket's record; nothing past the last whole record. Constant time.
+fn put_bucket(s: &mut [u32], n: usize, b: Bucket)
+    ensures { λ _. ⌜ now (s .exit) ≡ put-record (now (s .entry)) n (bucket-words b) ⌝ }
+{
+    records::put_record(
+        s,
+        n,
+        Fields {
+            kind: 2,
+            a: b.left,
+            b: b.right,
+            c: 1,
+            maximum: b.maximum,
+            height: b.height,
+        },
+    );
+}
 
 fn sum(x: u32, y: u32) -> u64
     ensures { λ r. ⌜ r ≡ x + y ⌝ }
@@ -42,18 +86,13 @@ fn link(s: &mut [u32], records: usize, b: u32, below: u32) -> bool
     if 4294967295 < height {
         return false;
     }
-    records::put_record(
-        s,
-        b as usize,
-        Fields {
-            kind: 2,
-            a: l,
-            b: below,
-            c: 1,
-            maximum: maximum as u32,
-            height: height as u32,
-        },
-    );
+    let renewed = Bucket {
+        left: l,
+        right: records::right(s, records, b),
+        maximum: maximum as u32,
+        height: height as u32,
+    };
+    put_bucket(s, b as usize, patched(renewed, below));
     true
 }
 

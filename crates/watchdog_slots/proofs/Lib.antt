@@ -1,2 +1,3 @@
 -- The law of a padded list that grows by one.
 pub mod Slots
+pub mod Determined

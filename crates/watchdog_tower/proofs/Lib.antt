@@ -1,2 +1,3 @@
 -- The laws of a tower.
 pub mod Towers
+pub mod Determined

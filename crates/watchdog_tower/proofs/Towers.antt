@@ -1,24 +1,22 @@
 -- Numbers taken, the queue run, the buckets made: together the rule of a tower. Assumes nothing.
 use mathlib.Core.Path.{_≡_, refl, sym, ap, ap₂, _∙_, subst}
 use mathlib.Core.Bool.{Bool, true, false}
-use mathlib.Core.List.{List, [], _∷_, _++_}
+use mathlib.Core.List.{List, [], _∷_}
 use Prim.Native.Nat.{ℕ, zero, suc, _+_, _-_, _≤_, _<_, max}
 use native.Mathlib.Omega.{arith}
 use lib.Dec.{eqb, ltb}
 use lib.ListN.{length, getD, set, take, drop}
 use lib.Seq.{getD-take, getD-set-same, getD-set-other}
 use mathlib.Core.Logic.{_≢_}
-use lib.IntN.{ℤ}
-use Rattle.rules.specs.Records.{Entry, Record}
+use Rattle.rules.specs.Records.{Entry}
 use Rattle.rules.specs.Totalizer.{Arena}
 use Rattle.rules.specs.Build.{largest, some-wait}
-use Rattle.rules.specs.Queue.{Sorting, queue-run}
+use Rattle.rules.specs.Queue.{queue-run}
 use Rattle.rules.specs.Buckets.{buckets-over}
-use Rattle.records.specs.Carries.{St, st, marksOf, Steps, Makes, on-records, with-records}
+use Rattle.records.specs.Carries.{St, marksOf, Steps, Makes, on-records, with-records}
 use Rattle.records.proofs.Grow.{Grows, grows-trans}
 use Rattle.records.proofs.Step.{stop, makes-then, makes-same, makes-full}
 use Rattle.records_append.specs.Fresh.{with-numbers}
-use Rattle.records_append.proofs.Appending.{fresh-grows}
 use borrow.Author.Tests.{ltb-true, ltb-false, eqb-true, eqb-false}
 use Rattle.records.specs.Words.{put-word}
 use Rattle.watchdog_line.specs.Work.{line, line-from, count-at}

@@ -1,16 +1,15 @@
 -- What is set aside is what stands, and what is put back is what stood. Assumes nothing.
 use mathlib.Core.Path.{_≡_, refl, sym, ap, ap₂, _∙_}
-use mathlib.Core.Logic.{_⊎_, inl, inr}
-use mathlib.Core.List.{List, [], _∷_, _++_}
+use mathlib.Core.List.{List, _++_}
 use Prim.Native.Nat.{ℕ, zero, suc, _+_, _*_, _-_, _/_, _≤_, _<_}
 use native.Mathlib.Omega.{arith}
 use lib.ListN.{length, getD, take, drop, length-drop, take-append-drop}
-use lib.Seq.{length-take-le, take-at, take-append-le, take-append-add, take-take}
+use lib.Seq.{length-take-le, take-at, take-append-add, take-take}
 use Rattle.rules.specs.declared.State.{State}
 use Rattle.rules.specs.Build.{buckets-of}
 use Rattle.laws.specs.Facts.{occurs}
 use Rattle.laws.specs.Images.{drop-take}
-use Rattle.watchdog_save.specs.Copies.{copied, Saved, Saves, Restores}
+use Rattle.watchdog_save.specs.Copies.{copied, Saves, Restores}
 use Rattle.watchdog_save.proofs.Copying.{front-same, copied-length}
 use Rattle.watchdog_undo.specs.Aside.{Aside, But}
 

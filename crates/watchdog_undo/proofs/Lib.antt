@@ -1,2 +1,3 @@
 -- The laws of words set aside and put back.
 pub mod Backs
+pub mod Determined

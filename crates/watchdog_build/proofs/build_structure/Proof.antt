@@ -1,5 +1,5 @@
 -- `build_structure` makes the tower of all powers that the weights reach. Assumes nothing.
-use mathlib.Core.Path.{_≡_, refl}
+use mathlib.Core.Path.{refl}
 use native.Mathlib.Omega.{arith}
 use Rattle.watchdog_build.proofs.Building.{queue-ready, power-low, power-few, fresh-room, tower-ready, line-low, built, made-slots}
 use borrow.Author.Needs.{needs}

@@ -1,5 +1,5 @@
 -- `carried_out` sets aside, reaches, and ends. Assumes nothing.
-use mathlib.Core.Path.{_≡_, refl, _∙_}
+use mathlib.Core.Path.{refl, _∙_}
 use native.Mathlib.Omega.{arith}
 use Rattle.watchdog_encode.proofs.Finals.{w, made-by, starts, aside-low, aside-few, store-room, buckets-room, aside-kept, but, undone-end, records-room, fresh-low, done-end}
 use borrow.Author.Needs.{needs}

@@ -1,5 +1,5 @@
 -- `done` settles and answers with the state reached. Assumes nothing.
-use mathlib.Core.Path.{_≡_, ap, _∙_}
+use mathlib.Core.Path.{ap, _∙_}
 use Rattle.rules.specs.Refusals.{answer-of}
 use Rattle.rules.specs.Encode.{encoded}
 use borrow.Author.Needs.{needs}

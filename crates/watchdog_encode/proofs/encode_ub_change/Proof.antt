@@ -1,5 +1,5 @@
 -- `encode_ub_change` refuses in order, does nothing where nothing is to do, and else carries out. Assumes nothing.
-use mathlib.Core.Path.{_≡_, sym, _∙_}
+use mathlib.Core.Path.{sym, _∙_}
 use borrow.Author.Tests.{not-true, not-false}
 use Rattle.rules.specs.Refusals.{answer-of}
 use Rattle.rules.specs.Build.{buildOf}

@@ -1,5 +1,5 @@
 -- `undone` puts back, settles and refuses. Assumes nothing.
-use mathlib.Core.Path.{_≡_, ap₂, _∙_}
+use mathlib.Core.Path.{ap₂, _∙_}
 use native.Mathlib.Omega.{arith}
 use Rattle.rules.specs.Lists.{padded}
 use Rattle.rules.specs.Refusals.{answer-of}

@@ -11,9 +11,6 @@ use Rattle.watchdog_outputs.specs.Values.{all-defined}
 use Rattle.watchdog_outputs.proofs.Turns.{defined-end, defined-stop, defined-on}
 use Rattle.watchdog_outputs.proofs.all_defined.Statement.{statement}
 use Rattle.watchdog_outputs.proofs.all_defined.Tie as tie
-use Rattle.watchdog_outputs.proofs.all_defined.Reads as reads
-use Rattle.watchdog_outputs.proofs.all_defined.Lts as lts
-use Rattle.totalizer_find.proofs.find.Reads as find-reads
 
 abbrev Inv-loop : tie.InvT-loop
 Inv-loop s records node first many v₀ k₀ v k = ((rs : List Record) → Stores s records rs → all-defined rs node (rising k v) ≡ all-defined rs node (rising many first)) × (v + k ≡ first + many)

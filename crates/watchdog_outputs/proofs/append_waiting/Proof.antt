@@ -12,10 +12,6 @@ use Rattle.watchdog_outputs.specs.Taken.{entries-by, with-waiting}
 use Rattle.watchdog_outputs.proofs.Turns.{waiting-end, waiting-turn}
 use Rattle.watchdog_outputs.proofs.append_waiting.Statement.{statement}
 use Rattle.watchdog_outputs.proofs.append_waiting.Tie as tie
-use Rattle.watchdog_outputs.proofs.append_waiting.Reads as reads
-use Rattle.watchdog_outputs.proofs.append_waiting.Lts as lts
-use Rattle.records.proofs.word.Reads as word-reads
-use Rattle.records_append.proofs.waiting.Reads as waiting-reads
 
 abbrev Inv-loop : tie.InvT-loop
 Inv-loop s₀ work a b apart many n₀ x₀ y₀ k₀ s n x y k = ((c : List ℤ) → Rest (st s₀ c n₀) (st s c n) (with-waiting (entries-by work a b apart many)) (with-waiting (entries-by work x y apart k))) × (x + 8 * k ≤ 20480) × (y + 8 * k ≤ 20480) × (length s ≡ length s₀)

@@ -3,11 +3,6 @@ use Rattle.watchdog_outputs.proofs.Turns.{outputs-stop, outputs-done}
 use borrow.Author.Needs.{needs}
 use Rattle.watchdog_outputs.proofs.encode_outputs.Statement.{statement}
 use Rattle.watchdog_outputs.proofs.encode_outputs.Tie as tie
-use Rattle.watchdog_outputs.proofs.encode_outputs.Reads as reads
-use Rattle.watchdog_outputs.proofs.encode_outputs.Lts as lts
-use Rattle.records.proofs.maximum.Reads as maximum-reads
-use Rattle.totalizer.proofs.define_from.Reads as define-from-reads
-use Rattle.watchdog_outputs.proofs.values.Reads as values-reads
 
 returns : tie.Need-returns
 returns c = outputs-stop _ _ _ _ _ (c .if1 .taken)

@@ -7,10 +7,6 @@ use Rattle.watchdog_outputs.proofs.Turns.{values-none, values-some, div
 use borrow.Author.Needs.{needs}
 use Rattle.watchdog_outputs.proofs.values.Statement.{statement}
 use Rattle.watchdog_outputs.proofs.values.Tie as tie
-use Rattle.watchdog_outputs.proofs.values.Reads as reads
-use Rattle.watchdog_outputs.proofs.values.Lts as lts
-use Rattle.numbers.proofs.power.Reads as power-reads
-use Rattle.watchdog_outputs.proofs.lower.Reads as lower-reads
 
 power-requires : tie.Need-power-requires
 power-requires c κs = search needs

@@ -1,5 +1,5 @@
 -- `reach` leaves what stands or builds anew. Assumes nothing.
-use mathlib.Core.Path.{_≡_, refl, subst}
+use mathlib.Core.Path.{refl, subst}
 use Prim.Native.Nat.{ℕ, _≤_, _<_}
 use Rattle.watchdog_reach.proofs.Ways.{stands-built, largest-by, reached-stands}
 use borrow.Author.Needs.{needs}

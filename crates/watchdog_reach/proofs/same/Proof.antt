@@ -1,5 +1,5 @@
 -- `same` finishes what stands. Assumes nothing.
-use mathlib.Core.Path.{_≡_, refl, sym, subst}
+use mathlib.Core.Path.{refl, sym, subst}
 use native.Mathlib.Omega.{arith}
 use Rattle.rules.specs.Build.{buildOf}
 use Rattle.records.specs.declared.Marks.{Marks}

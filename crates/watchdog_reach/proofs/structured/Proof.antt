@@ -1,5 +1,5 @@
 -- `structured` builds or refines over the queue. Assumes nothing.
-use mathlib.Core.Path.{_≡_, _∙_}
+use mathlib.Core.Path.{_∙_}
 use native.Mathlib.Omega.{arith}
 use Rattle.watchdog_reach.proofs.Standing.{few-wait}
 use Rattle.watchdog_reach.proofs.Ways.{ready, refinable, first-structured, refined-structured, begun-fresh, entered-by, refines-by}

@@ -1,7 +1,7 @@
--- `link` computes maximum and height in 64 bits: where one does not fit a word nothing is written, else the words of the node that the rule makes. Assumes nothing.
+-- `link` computes maximum and height in 64 bits: where one does not fit a word nothing is written, else the words of the bucket, patched. Assumes nothing.
 use native.Mathlib.Omega.{arith}
 use borrow.Author.Needs.{needs}
-use Rattle.watchdog_relink.proofs.Linking.{link-over, link-done}
+use Rattle.watchdog_relink.proofs.Linking.{bucket-put, link-over, link-done}
 use Rattle.watchdog_relink.proofs.link.Statement.{statement}
 use Rattle.watchdog_relink.proofs.link.Tie as tie
 
@@ -41,20 +41,26 @@ same-length-2 c = search needs
 returns-2 : tie.Need-returns-2
 returns-2 c = link-over _ _ _ _ _ _ _ _ _ _ _ _ (c .before .before .before .before .before .before .before .before .before .before .before .before .before .left .ensures) (c .before .before .before .before .before .before .before .before .before .before .before .maximum .ensures) (c .before .before .before .before .before .before .before .before .before .before .counted .ensures) (c .before .before .before .before .before .before .before .before .maximum2 .ensures) (c .before .before .before .before .before .before .before .sum .ensures) (c .before .before .before .before .before .height .ensures) (c .before .before .before .height2 .ensures) (c .before .before .above .ensures) (omega (arith, c .if2 .taken))
 
-cast-t11 : tie.Need-cast-t11
-cast-t11 c = search needs
+right-requires : tie.Need-right-requires
+right-requires c κs = search needs
 
-cast-t18 : tie.Need-cast-t18
-cast-t18 c = search needs
+cast-t19 : tie.Need-cast-t19
+cast-t19 c = search needs
 
-put-record-requires : tie.Need-put-record-requires
-put-record-requires c κs = search needs
+cast-t25 : tie.Need-cast-t25
+cast-t25 c = search needs
+
+patched-requires : tie.Need-patched-requires
+patched-requires c κs = search needs
+
+put-bucket-requires : tie.Need-put-bucket-requires
+put-bucket-requires c κs = search needs
 
 same-length-3 : tie.Need-same-length-3
 same-length-3 c = search needs
 
 returns-3 : tie.Need-returns-3
-returns-3 c = link-done _ _ _ _ _ _ _ _ _ _ _ _ (c .before .before .before .before .before .before .before .before .before .before .before .before .before .before .before .before .before .left .ensures) (c .before .before .before .before .before .before .before .before .before .before .before .before .before .before .before .maximum .ensures) (c .before .before .before .before .before .before .before .before .before .before .before .before .before .before .counted .ensures) (c .before .before .before .before .before .before .before .before .before .before .before .before .maximum2 .ensures) (c .before .before .before .before .before .before .before .before .before .before .before .sum .ensures) (c .before .before .before .before .before .before .before .before .before .height .ensures) (c .before .before .before .before .before .before .before .height2 .ensures) (c .before .before .before .before .before .before .above .ensures) _ (c .before .before .put-record .kept .0) (c .before .before .before .before .before .if1 .left) (c .before .before .before .before .if2 .left) (c .before .before .put-record .ensures)
+returns-3 c = link-done _ _ _ _ _ _ _ _ _ _ _ _ (c .before .before .before .before .before .before .before .before .before .before .before .before .before .before .before .before .before .before .before .before .left .ensures) (c .before .before .before .before .before .before .before .before .before .before .before .before .before .before .before .before .before .before .maximum .ensures) (c .before .before .before .before .before .before .before .before .before .before .before .before .before .before .before .before .before .counted .ensures) (c .before .before .before .before .before .before .before .before .before .before .before .before .before .before .before .maximum2 .ensures) (c .before .before .before .before .before .before .before .before .before .before .before .before .before .before .sum .ensures) (c .before .before .before .before .before .before .before .before .before .before .before .before .height .ensures) (c .before .before .before .before .before .before .before .before .before .before .height2 .ensures) (c .before .before .before .before .before .before .before .before .before .above .ensures) _ (c .before .before .put-bucket .kept .0) (c .before .before .before .before .before .before .before .before .if1 .left) (c .before .before .before .before .before .before .before .if2 .left) (bucket-put _ _ _ _ _ _ _ _ (c .before .before .before .patched .ensures) (c .before .before .put-bucket .ensures))
 
 pub link-spec : {M : Type 1} → statement M
 link-spec =
@@ -72,8 +78,10 @@ link-spec =
     returns
     same-length-2
     returns-2
-    cast-t11
-    cast-t18
-    put-record-requires
+    right-requires
+    cast-t19
+    cast-t25
+    patched-requires
+    put-bucket-requires
     same-length-3
     returns-3)

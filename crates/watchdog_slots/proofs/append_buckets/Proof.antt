@@ -1,10 +1,10 @@
 -- `append_buckets` fills the slots behind in turn. Assumes nothing.
-use mathlib.Core.Path.{_≡_, refl, sym, ap, _∙_}
+use mathlib.Core.Path.{_≡_, sym, ap, _∙_}
 use mathlib.Core.List.{List, _++_, append-nil}
 use Prim.Native.Nat.{ℕ, _+_, _-_, _≤_}
 use native.Mathlib.Omega.{arith}
 use lib.ListN.{length, take, drop}
-use Rattle.rules.specs.Lists.{rising, padded}
+use Rattle.rules.specs.Lists.{padded}
 use Rattle.watchdog_slots.proofs.Slots.{words-turn, append-end}
 use Rattle.watchdog_slots.proofs.append_buckets.Statement.{statement}
 use Rattle.watchdog_slots.proofs.append_buckets.Tie as tie

@@ -1,10 +1,10 @@
 -- `append_tares` fills the slots behind in turn. Assumes nothing.
-use mathlib.Core.Path.{_≡_, refl, sym, ap, _∙_}
+use mathlib.Core.Path.{_≡_, sym, ap, _∙_}
 use mathlib.Core.List.{List, _++_, append-nil}
 use Prim.Native.Nat.{ℕ, _+_, _-_, _≤_}
 use native.Mathlib.Omega.{arith}
-use lib.ListN.{length, take, drop}
-use Rattle.rules.specs.Lists.{rising, padded}
+use lib.ListN.{length, take}
+use Rattle.rules.specs.Lists.{padded}
 use Rattle.watchdog_slots.proofs.Slots.{append-turn, append-end}
 use Rattle.watchdog_slots.proofs.append_tares.Statement.{statement}
 use Rattle.watchdog_slots.proofs.append_tares.Tie as tie

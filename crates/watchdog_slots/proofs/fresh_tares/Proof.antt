@@ -1,9 +1,7 @@
 -- `fresh_tares` fills the slots in turn. Assumes nothing.
-use mathlib.Core.Path.{_≡_, refl, sym, ap, _∙_}
-use mathlib.Core.List.{List, _++_, append-nil}
-use Prim.Native.Nat.{ℕ, _+_, _-_, _≤_}
+use mathlib.Core.Path.{_≡_}
+use Prim.Native.Nat.{_-_, _≤_}
 use native.Mathlib.Omega.{arith}
-use lib.ListN.{length, take, drop}
 use Rattle.rules.specs.Lists.{rising, padded}
 use Rattle.watchdog_slots.proofs.Slots.{fresh-start, fresh-turn, fresh-end}
 use Rattle.watchdog_slots.proofs.fresh_tares.Statement.{statement}

@@ -1,5 +1,5 @@
 -- `tower` takes numbers, runs the queue and makes the buckets. Assumes nothing.
-use mathlib.Core.Path.{_≡_, refl, _∙_}
+use mathlib.Core.Path.{refl, _∙_}
 use native.Mathlib.Omega.{arith}
 use Rattle.watchdog_queue.proofs.Steps.{queued-count}
 use Rattle.watchdog_buckets.proofs.Words.{members-from-drop}

@@ -1,5 +1,5 @@
 -- `put_back` restores the buckets and copies the waiting records. Assumes nothing.
-use mathlib.Core.Path.{_≡_, refl, _∙_}
+use mathlib.Core.Path.{_∙_}
 use native.Mathlib.Omega.{arith}
 use Rattle.rules.specs.Build.{buckets-of}
 use Rattle.watchdog_undo.proofs.Backs.{back}

@@ -1,5 +1,4 @@
 -- `set_aside` copies the waiting records and saves the buckets. Assumes nothing.
-use mathlib.Core.Path.{_≡_, refl, _∙_}
 use native.Mathlib.Omega.{arith}
 use Rattle.rules.specs.Build.{buckets-of}
 use Rattle.watchdog_undo.proofs.Backs.{aside}

@@ -1,0 +1,2 @@
+-- What a slice of nodes holds.
+pub mod Nodes
