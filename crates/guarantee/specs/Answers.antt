@@ -1,9 +1,9 @@
 -- What an answer of an output and tares admits, over any build whose clauses mean what its outputs say and whose root counts the inputs. Assumes nothing.
-use mathlib.Core.Path.{_≡_, refl, sym, ap, ap₂, _∙_, subst}
+use mathlib.Core.Path.{_≡_, refl, ap₂, _∙_, subst}
 use mathlib.Core.Logic.{_≢_, _↔_}
 use mathlib.Core.Bool.{Bool, true, false}
-use mathlib.Core.List.{List, [], _∷_, _++_}
-use Prim.Native.Nat.{ℕ, zero, suc, _+_, _*_, _-_, _/_, _^_, _≤_, _<_}
+use mathlib.Core.List.{List, [], _∷_}
+use Prim.Native.Nat.{ℕ, suc, _+_, _*_, _-_, _/_, _^_, _≤_, _<_}
 use native.Mathlib.Omega.{arith}
 use native.Mathlib.Nat.{div-lt-iff-lt-mul}
 use lib.Dec.{leb}
@@ -11,15 +11,15 @@ use lib.ListN.{length}
 use lib.IntN.{ℤ, pos, negℤ, natAbs}
 use lib.Pow.{pow-pos}
 use borrow.Author.Tests.{leb-true, leb-false, lt-leb}
-use Rattle.rules.specs.Records.{Kind, leaf, join, dummy, Output, Record, nodeAt, outputs}
+use Rattle.rules.specs.Records.{join, Record, nodeAt, outputs}
 use Rattle.rules.specs.Totalizer.{Arena, number-of, literal-of}
 use Rattle.rules.specs.Enforce.{set-tares}
-use Rattle.laws.specs.Facts.{All, All-map, All-zip}
+use Rattle.laws.specs.Facts.{All, All-map}
 use Rattle.laws.specs.Places.{place}
 use Rattle.laws.specs.Formed.{Sound}
 use Rattle.guarantee.specs.Truth.{Assign, Truths, holds, Sat, both, not-both, neg-holds, holds-agree}
-use Rattle.guarantee.specs.Values.{bit, value, value-most}
-use Rattle.guarantee.specs.Meaning.{literal, ClaimedKind, Claimed, every, Claim, Means, found, output-holds, meant, meant-apart, meant-at, meant-sat}
+use Rattle.guarantee.specs.Values.{bit, value}
+use Rattle.guarantee.specs.Meaning.{literal, Claimed, every, Claim, found, output-holds, meant, meant-apart, meant-at, meant-sat}
 use Rattle.guarantee.specs.Defining.{Told}
 use Rattle.guarantee.specs.Chains.{tare-sum}
 use Rattle.guarantee.specs.Tares.{Held, tares-least, tares-exact, tared, tared-apart, Once, tared-bits, bits-same}

@@ -2,13 +2,13 @@
 use mathlib.Core.Path.{_≡_, refl, sym, ap, ap₂, _∙_, subst}
 use mathlib.Core.Bool.{Bool, true, false}
 use mathlib.Core.List.{List, [], _∷_, _++_, map}
-use Prim.Native.Nat.{ℕ, zero, suc, _+_, _*_, _-_, _/_, _^_, _≤_, _<_}
+use Prim.Native.Nat.{ℕ, zero, suc, _+_, _*_, _-_, _^_, _≤_, _<_}
 use native.Mathlib.Omega.{arith}
-use native.Mathlib.Nat.{mul-add, add-mul, mul-assoc, mul-comm, one-mul, zero-mul, mul-zero, pow-succ'}
+use native.Mathlib.Nat.{mul-add, add-mul, mul-assoc, mul-comm, one-mul, mul-zero, pow-succ'}
 use lib.ListN.{length, length-append, length-map, length-drop, drop}
-use lib.IntN.{ℤ, pos}
+use lib.IntN.{pos}
 use Rattle.rules.specs.Lists.{total, sort}
-use Rattle.rules.specs.Records.{Kind, leaf, join, dummy, Node, Record, node, nodeAt, left-link, leaf-node, dummy-node}
+use Rattle.rules.specs.Records.{Node, Record, node, nodeAt, left-link, leaf-node, dummy-node}
 use Rattle.rules.specs.Totalizer.{joining, add, merge-by, merge}
 use Rattle.rules.specs.Buckets.{with-tare, lower, with-below, bucket, left-out, buckets-over}
 use Rattle.laws.specs.Facts.{All, All-map, All-append, total-append}

@@ -1,23 +1,22 @@
 -- Demand 3 from words: any run of calls on lent slices, as the rules' calls say it, with the clause words in the buffer read as clauses.
 -- Assumes nothing.
 use mathlib.Core.Path.{_≡_, refl, sym, ap, ap₂, _∙_, subst}
-use mathlib.Core.Logic.{_≢_, _↔_}
+use mathlib.Core.Logic.{_↔_}
 use mathlib.Core.Bool.{Bool, true, false, not, cond, _&&_}
 use mathlib.Core.Option.{Option, none, some}
-use mathlib.Core.List.{List, [], _∷_, _++_, map, append-assoc, append-nil}
-use Prim.Native.Nat.{ℕ, zero, suc, _+_, _*_, _-_, _/_, _^_, _≤_, _<_}
+use mathlib.Core.List.{List, [], _∷_, _++_, append-assoc, append-nil}
+use Prim.Native.Nat.{ℕ, zero, suc, _+_, _*_, _-_, _/_, _≤_}
 use native.Mathlib.Omega.{arith}
-use lib.Dec.{eqb, leb, ltb}
-use lib.ListN.{length, length-append, take, drop, replicate}
+use lib.Dec.{eqb, leb}
+use lib.ListN.{length, length-append, take, drop}
 use lib.Seq.{take-at}
 use lib.IntN.{ℤ, pos, negsuc, negℤ, natAbs}
-use borrow.Author.Tests.{ltb-false}
 use Rattle.rules.specs.declared.State.{State}
 use Rattle.rules.specs.Lists.{all, padded}
 use Rattle.rules.specs.Numbers.{record-words, divisor-of}
-use Rattle.rules.specs.Refusals.{first-of, divisor-unlawful}
+use Rattle.rules.specs.Refusals.{divisor-unlawful}
 use Rattle.rules.specs.Records.{Kind, leaf, join, dummy, Record, waits, nodeAt, outputs, imageOf}
-use Rattle.rules.specs.Totalizer.{Arena, asks, number-of, literal-of, side, clause}
+use Rattle.rules.specs.Totalizer.{asks, number-of, literal-of, side, clause}
 use Rattle.rules.specs.Build.{Build, restructured, with-arena, records, clause-words, clause-total, clause-mark, variable-total, stateOf, buildOf, unbuilt, output-weight, root, root-node, largest}
 use Rattle.rules.specs.WellFormed.{well-formed, not-well-formed}
 use Rattle.rules.specs.Start.{start-refusal, new-build, StartEnd, start-end, start}
@@ -29,7 +28,7 @@ use Rattle.laws.specs.Appends.{after, earlier, encode-after, recounted, encode-
 use Rattle.laws.specs.Facts.{All, All-map, All-append, facts-all}
 use Rattle.laws.specs.Places.{place}
 use Rattle.laws.specs.Formed.{Sound, Rise, Formed}
-use Rattle.preserve.specs.Starts.{Lent, lent, not-first}
+use Rattle.preserve.specs.Starts.{lent, not-first}
 use Rattle.preserve.specs.Encodes.{Accepted, accepted}
 use Rattle.preserve.specs.Sets.{set-to}
 use Rattle.guarantee.specs.Truth.{Assign, holds, member-all}

@@ -1,16 +1,16 @@
 -- The chain of buckets: the root's value is what all buckets count, in units of the lowest one, divided by the weight of the top one. Assumes nothing.
-use mathlib.Core.Path.{_≡_, refl, sym, ap, ap₂, _∙_, subst}
+use mathlib.Core.Path.{_≡_, refl, sym, ap, _∙_}
 use mathlib.Core.Bool.{Bool, true, false}
 use mathlib.Core.List.{List, [], _∷_, _++_, map}
-use Prim.Native.Nat.{ℕ, zero, suc, _+_, _*_, _-_, _/_, _^_, _≤_, _<_}
+use Prim.Native.Nat.{ℕ, suc, _+_, _*_, _-_, _/_, _^_, _≤_, _<_}
 use native.Mathlib.Omega.{arith}
-use native.Mathlib.Nat.{mul-comm, mul-add, add-mul, mul-assoc, one-mul, mul-zero, zero-mul, mul-one, pow-succ', pow-zero, add-mul-div-right, div-div-eq-div-mul, div-one}
-use lib.ListN.{length, length-append, length-map}
-use lib.IntN.{ℤ, pos}
+use native.Mathlib.Nat.{mul-comm, add-mul, mul-assoc, one-mul, zero-mul, mul-one, pow-succ', add-mul-div-right, div-div-eq-div-mul, div-one}
+use lib.ListN.{length, length-append}
+use lib.IntN.{pos}
 use lib.Pow.{pow-pos, pow-add}
-use Rattle.rules.specs.Records.{Kind, leaf, join, dummy, Node, left-link}
+use Rattle.rules.specs.Records.{Node, left-link}
 use Rattle.rules.specs.Totalizer.{counts}
-use Rattle.laws.specs.Formed.{Sound, Ends, Linked}
+use Rattle.laws.specs.Formed.{Sound, Linked}
 use Rattle.guarantee.specs.Truth.{Truths}
 use Rattle.guarantee.specs.Values.{bit, value, value-join, value-dummy}
 

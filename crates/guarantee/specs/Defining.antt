@@ -1,6 +1,6 @@
 -- Defining outputs keeps the clauses meaning what the outputs say, whichever clauses are asked of the earlier ones. Assumes nothing.
-use mathlib.Core.Path.{_≡_, refl, sym, ap, ap₂, _∙_, subst}
-use mathlib.Core.Logic.{_≢_, _⊎_, inl, inr}
+use mathlib.Core.Path.{_≡_, refl, sym, ap, _∙_, subst}
+use mathlib.Core.Logic.{inl, inr}
 use mathlib.Core.Bool.{Bool, true, false, cond, _&&_}
 use mathlib.Core.List.{List, [], _∷_, _++_, map, append-assoc, append-nil}
 use Prim.Native.Nat.{ℕ, zero, suc, _+_, _-_, _≤_, _<_, min, max}
@@ -13,11 +13,11 @@ use Rattle.rules.specs.Records.{Kind, leaf, join, dummy, Node, Output, Record, 
 use Rattle.rules.specs.Totalizer.{Arena, counts, asks, number-in, number-of, pairs-from, pairs, clause, write, take-number, Define, ask, ask-pair, define-join, define-kind, define}
 use Rattle.laws.specs.Facts.{All, All-map, All-zip, All-append, map-append}
 use Rattle.laws.specs.Halving.{counts-asks}
-use Rattle.laws.specs.Places.{place, nodes-same, places-same, output-none, outputs-append, outputs-of-outputs, number-in-append}
-use Rattle.laws.specs.Formed.{Ruled, Sound, Rise}
+use Rattle.laws.specs.Places.{place, nodes-same, places-same, output-none, outputs-append, outputs-of-outputs}
+use Rattle.laws.specs.Formed.{Sound, Rise}
 use Rattle.guarantee.specs.Truth.{Member, member-left, member-right}
 use Rattle.guarantee.specs.Meaning.{ClaimedKind, Claimed, Sides, Pair, Derived, Asked, CompleteAt, Claim, Means, rise-high}
-use Rattle.guarantee.specs.Growing.{join-parts, Keeps, Onto, onto-keeps, sides-kept, clause-kept, pair-onto, kind-onto, derived-onto, complete-onto, claim-onto}
+use Rattle.guarantee.specs.Growing.{join-parts, Onto, onto-keeps, sides-kept, clause-kept, pair-onto, kind-onto, derived-onto, complete-onto, claim-onto}
 
 -- an arena whose clauses mean what its outputs say; its numbers and its leaves' variables were taken before the next fresh one
 pub record Told (asked : Asked) (s : Arena) : Type 0 where

@@ -1,43 +1,41 @@
 -- Demand 3: what a bound's answer admits, over any accepted calls, also after more encoding and after refinement. Assumes nothing.
 use mathlib.Core.Path.{_≡_, refl, sym, ap, ap₂, _∙_, subst}
 use mathlib.Core.Logic.{_≢_, _↔_}
-use mathlib.Core.Bool.{Bool, true, false, cond, _&&_, false≢true}
+use mathlib.Core.Bool.{Bool, true, false, cond, _&&_}
 use mathlib.Core.Option.{Option, none, some}
-use mathlib.Core.List.{List, [], _∷_, _++_, map}
+use mathlib.Core.List.{List, [], _∷_, map}
 use Prim.Native.Nat.{ℕ, zero, suc, _+_, _*_, _-_, _/_, _%_, _^_, _≤_, _<_}
 use native.Mathlib.Omega.{arith}
-use native.Mathlib.Nat.{one-mul, mul-one, mul-comm, mul-assoc, mul-add, suc-mul, div-add-mod', mod-lt, div-mul-le-self, div-lt-iff-lt-mul, div-one, mul-div-cancel, mul-pos, mul-le-mul-left, mul-suc}
-use lib.Dec.{eqb, leb, ltb}
+use native.Mathlib.Nat.{one-mul, mul-one, mul-comm, mul-assoc, mul-add, suc-mul, div-add-mod', mod-lt, div-mul-le-self, div-one, mul-div-cancel, mul-pos, mul-le-mul-left, mul-suc}
+use lib.Dec.{eqb, leb}
 use lib.ListN.{length, getD, drop, length-append}
 use lib.IntN.{ℤ, pos, negℤ, natAbs}
 use lib.Pow.{pow-pos, pow-add}
-use borrow.Author.Tests.{eqb-true, eqb-false, eq-eqb, ne-eqb, leb-true, leb-false, ltb-true, ltb-false}
+use borrow.Author.Tests.{eqb-true, eqb-false, ne-eqb, leb-true, leb-false}
 use Rattle.rules.specs.Lists.{total, rising}
 use Rattle.rules.specs.Digits.{top-bit}
-use Rattle.rules.specs.Records.{Kind, leaf, join, dummy, Node, Output, Entry, Record, nodeAt, outputs}
-use Rattle.rules.specs.Totalizer.{Arena, number-in, number-of}
+use Rattle.rules.specs.Records.{Kind, Output, Record, nodeAt, outputs}
+use Rattle.rules.specs.Totalizer.{number-in, number-of}
 use Rattle.rules.specs.Build.{Build, unbuilt, output-weight, root, root-node, largest, some-wait}
 use Rattle.rules.specs.Start.{start-refusal, new-build}
-use Rattle.rules.specs.Enforce.{set-tares, output-answer, root-answer, built-answer, one-answer, enforce}
+use Rattle.rules.specs.Enforce.{set-tares, output-answer, root-answer, built-answer, enforce}
 use Rattle.rules.specs.WellFormed.{variable-of}
-use Rattle.laws.specs.Facts.{All, All-map, All-zip, All-second, All-source, rising-at, occurs, occurs-append, occurs-here, occurs-more, All-self}
+use Rattle.laws.specs.Facts.{All, All-map, All-second, All-source, rising-at, occurs, occurs-append, occurs-here, occurs-more, All-self}
 use Rattle.laws.specs.Places.{place, number-in-kept}
 use Rattle.laws.specs.Powers.{top-bit-least}
 use Rattle.laws.specs.Runs.{largest-all}
-use Rattle.laws.specs.Formed.{Sound, Formed, Built, Taken, Linked, variables-of}
+use Rattle.laws.specs.Formed.{Formed, Built, Linked, variables-of}
 use Rattle.laws.specs.Keeps.{All-places}
-use Rattle.preserve.specs.Starts.{Lent, lent}
+use Rattle.preserve.specs.Starts.{lent}
 use Rattle.preserve.specs.Given.{taken-positive}
 use Rattle.guarantee.specs.Truth.{Assign, Truths, holds}
-use Rattle.guarantee.specs.Values.{bit, value, value-all}
-use Rattle.guarantee.specs.Meaning.{every, Claim}
+use Rattle.guarantee.specs.Values.{value, value-all}
 use Rattle.guarantee.specs.Chains.{units, tare-sum, tare-all, tops}
 use Rattle.guarantee.specs.Roots.{root-law}
 use Rattle.guarantee.specs.Tares.{Once, set-tares-above}
 use Rattle.guarantee.specs.Queues.{waited, waited-none}
 use Rattle.guarantee.specs.Answers.{sum-of, Admits, Counting, bound-law, admits}
 use Rattle.guarantee.specs.Telling.{once-apart}
-use Rattle.guarantee.specs.Weighing.{WeighsBuilt, WeighsUnbuilt}
 use Rattle.guarantee.specs.Worlds.{Leads, here, World, Follows}
 use Rattle.guarantee.specs.Reached.{started-world, leads-world, leads-follows}
 

@@ -2,24 +2,23 @@
 use mathlib.Core.Path.{_≡_, refl, sym, ap, ap₂, _∙_, subst}
 use mathlib.Core.Logic.{_≢_, _⊎_, inl, inr}
 use mathlib.Core.Bool.{Bool, true, false, cond, false≢true}
-use mathlib.Core.List.{List, [], _∷_, _++_, map, append-assoc, append-nil}
-use Prim.Native.Nat.{ℕ, zero, suc, _+_, _/_, _≤_, _<_, max}
+use mathlib.Core.List.{List, [], _∷_, map, append-nil}
+use Prim.Native.Nat.{ℕ, suc, _≤_, _<_, max}
 use native.Mathlib.Omega.{arith}
 use lib.Dec.{leb, ltb, eqb}
-use lib.IntN.{ℤ, natAbs}
-use borrow.Author.Tests.{leb-true, leb-false, ltb-true, ltb-false, lt-ltb, eqb-true, eqb-false, eq-eqb}
+use lib.IntN.{ℤ}
+use borrow.Author.Tests.{leb-true, leb-false, lt-ltb, eqb-true, eqb-false, eq-eqb}
 use Rattle.rules.specs.Lists.{keep, in-turn}
-use Rattle.rules.specs.Records.{Kind, leaf, join, dummy, Node, Output, Record, nodeAt, outputs, left-link, right-link}
-use Rattle.rules.specs.Totalizer.{Arena, counts, asks, pairs, clause, write, ask-pair, define}
+use Rattle.rules.specs.Records.{Kind, join, Node, Output, Record, nodeAt, outputs, left-link, right-link}
+use Rattle.rules.specs.Totalizer.{Arena, counts, pairs, clause, write, ask-pair, define}
 use Rattle.rules.specs.Refinement.{former-half, further-pairs, extend, extend-bucket}
 use Rattle.laws.specs.Facts.{All, All-map, All-zip, All-append, All-keep, occurs, occurs-other}
-use Rattle.laws.specs.Places.{place}
-use Rattle.laws.specs.Formed.{Ruled, Sound, Rise}
-use Rattle.guarantee.specs.Truth.{Member, member-left, member-right, member-all, all-members}
-use Rattle.guarantee.specs.Meaning.{Claimed, Sides, Pair, Derived, Asked, every, CompleteAt, Claim, Means}
-use Rattle.guarantee.specs.Growing.{join-parts, Keeps, Onto, onto-self, onto-keeps, sides-kept, clause-kept, derived-onto}
+use Rattle.laws.specs.Formed.{Sound}
+use Rattle.guarantee.specs.Truth.{Member, member-left, member-right, all-members}
+use Rattle.guarantee.specs.Meaning.{Sides, Derived, Asked, every, CompleteAt, Means}
+use Rattle.guarantee.specs.Growing.{join-parts, Keeps, onto-self, onto-keeps, sides-kept, clause-kept}
 use Rattle.guarantee.specs.Patching.{former}
-use Rattle.guarantee.specs.Defining.{Told, Grown, grown-self, grown-then, grown-nodes, grown-places, grown-outputs, grown-onto, member-grown, InPair, pairs-in, pairs-all, all-images, Defines, Over, defines-self, defines-then, over-defines, pairs-define, define-defines, clauses-derived, sound-over}
+use Rattle.guarantee.specs.Defining.{Told, Grown, grown-self, grown-then, grown-nodes, grown-places, grown-outputs, grown-onto, member-grown, InPair, pairs-in, pairs-all, all-images, Defines, Over, defines-self, defines-then, over-defines, pairs-define, define-defines, clauses-derived}
 
 -- a member that passes the test is kept
 pub keep-member : {A : Type 0} (P : A → Type 0) (p : A → Bool) (xs : List A) → All P (keep p xs) → (x : A) → Member x xs → p x ≡ true → P x

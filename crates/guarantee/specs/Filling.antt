@@ -1,11 +1,10 @@
 -- What a queue that started with empty buckets put into them, in any power up to its divisor's. Assumes nothing.
 use mathlib.Core.Path.{_≡_, refl, sym, ap, ap₂, _∙_, subst}
-use mathlib.Core.Bool.{Bool, true, false}
-use mathlib.Core.List.{List, [], _∷_, _++_, map}
+use mathlib.Core.List.{List, [], _∷_, map}
 use Prim.Native.Nat.{ℕ, zero, suc, _+_, _*_, _-_, _/_, _^_, _≤_, _<_}
 use native.Mathlib.Omega.{arith}
-use native.Mathlib.Nat.{mul-assoc, mul-comm, one-mul, pow-succ'}
-use lib.ListN.{length, getD, set, drop, replicate, length-replicate, length-set}
+use native.Mathlib.Nat.{mul-assoc, one-mul, pow-succ'}
+use lib.ListN.{length, getD, drop, replicate, length-replicate}
 use lib.Seq.{getD-set-other}
 use lib.Pow.{pow-pos, pow-mono}
 use Rattle.rules.specs.Lists.{total, sort}

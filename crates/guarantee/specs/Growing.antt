@@ -1,18 +1,17 @@
 -- More nodes and more outputs leave what was claimed, and its clauses, as they were. Assumes nothing.
 use mathlib.Core.Path.{_≡_, refl, sym, ap, ap₂, _∙_, subst}
 use mathlib.Core.Logic.{_≢_}
-use mathlib.Core.Bool.{Bool, true, false}
-use mathlib.Core.List.{List, [], _∷_, _++_, append-assoc, append-nil}
-use Prim.Native.Nat.{ℕ, zero, suc, _+_, _≤_, _<_}
+use mathlib.Core.Bool.{Bool, true}
+use mathlib.Core.List.{List, [], _∷_, _++_, append-nil}
+use Prim.Native.Nat.{ℕ, zero, suc, _+_, _≤_}
 use native.Mathlib.Omega.{arith}
 use lib.IntN.{ℤ, pos, negℤ, natAbs}
 use Rattle.rules.specs.Records.{Kind, leaf, join, dummy, Node, Output, Record, nodeAt, outputs}
-use Rattle.rules.specs.Totalizer.{counts, asks, number-in, number-of, literal-of, side, clause}
-use Rattle.laws.specs.Facts.{All, All-map, All-append}
+use Rattle.rules.specs.Totalizer.{asks, number-in, number-of, literal-of, side, clause}
 use Rattle.laws.specs.Places.{place, leaf-place, join-place, number-in-kept}
-use Rattle.laws.specs.Formed.{Ruled, Sound, Rise}
+use Rattle.laws.specs.Formed.{Sound}
 use Rattle.guarantee.specs.Truth.{Member, member-left}
-use Rattle.guarantee.specs.Meaning.{literal, ClaimedKind, Claimed, Sides, Pair, Derived, Asked, CompleteAt, Claim, Means}
+use Rattle.guarantee.specs.Meaning.{literal, ClaimedKind, Claimed, Sides, Pair, Derived, Asked, CompleteAt, Claim}
 
 -- equal joins have equal parts
 pub join-parts : (half half′ : Bool) (l l′ r r′ : ℕ) → join half l r ≡ join half′ l′ r′ → (half ≡ half′) × (l ≡ l′) × (r ≡ r′)

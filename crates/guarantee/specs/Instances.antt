@@ -1,13 +1,11 @@
 -- Demand 3 at document 01's worked cases, computed, so its hypotheses can be met. Assumes nothing.
-use mathlib.Core.Path.{_≡_, refl}
+use mathlib.Core.Path.{refl}
 use mathlib.Core.Logic.{_↔_}
-use mathlib.Core.Bool.{Bool, true, false}
-use mathlib.Core.Option.{some}
+use mathlib.Core.Bool.{true}
 use mathlib.Core.List.{List, [], _∷_}
-use Prim.Native.Nat.{ℕ, suc, _*_, _-_, _/_, _≤_}
-use native.Mathlib.Omega.{arith}
+use Prim.Native.Nat.{ℕ, _-_, _≤_}
 use lib.Dec.{lit≤}
-use lib.ListN.{length, replicate}
+use lib.ListN.{replicate}
 use lib.IntN.{ℤ, pos, negsuc}
 use Rattle.rules.specs.Build.{Build}
 use Rattle.rules.specs.Start.{start-refusal, new-build}

@@ -1,25 +1,20 @@
 -- What nodes that were appended, or buckets that were brought up to date, leave of values, claims and clauses. Assumes nothing.
 use mathlib.Core.Path.{_≡_, refl, sym, ap, ap₂, _∙_, subst}
-use mathlib.Core.Logic.{_≢_, _⊎_, inl, inr}
-use mathlib.Core.Bool.{Bool, true, false}
-use mathlib.Core.List.{List, [], _∷_, _++_, append-nil}
-use Prim.Native.Nat.{ℕ, zero, suc, _+_, _*_, _/_, _≤_, _<_}
+use mathlib.Core.Logic.{_≢_}
+use mathlib.Core.Bool.{Bool, true}
+use mathlib.Core.List.{List, [], append-nil}
+use Prim.Native.Nat.{ℕ, zero, suc, _+_, _≤_, _<_}
 use native.Mathlib.Omega.{arith}
-use lib.Dec.{eqb}
-use lib.IntN.{ℤ, pos, natAbs}
-use borrow.Author.Tests.{eqb-true, eqb-false}
-use Rattle.rules.specs.Records.{Kind, leaf, join, dummy, Node, Output, Record, nodeAt, outputs, left-link, right-link}
-use Rattle.rules.specs.Totalizer.{Arena, counts, asks, number-in, number-of, literal-of, side, clause}
-use Rattle.rules.specs.Refinement.{former-half}
-use Rattle.rules.specs.WellFormed.{above}
-use Rattle.laws.specs.Facts.{All, All-map, All-zip, occurs, occurs-here, occurs-other, occurs-more}
-use Rattle.laws.specs.Places.{place, place-inside, leaf-place, join-place}
-use Rattle.laws.specs.Formed.{Ruled, Sound, Rise, Spares, Linked}
-use Rattle.laws.specs.Climbs.{first, Step, Steps, Climbed}
+use lib.IntN.{ℤ, natAbs}
+use Rattle.rules.specs.Records.{Kind, leaf, join, dummy, Node, Output, nodeAt, outputs}
+use Rattle.rules.specs.Totalizer.{Arena, counts}
+use Rattle.laws.specs.Facts.{All, All-map, All-zip}
+use Rattle.laws.specs.Places.{place}
+use Rattle.laws.specs.Formed.{Sound, Rise}
 use Rattle.guarantee.specs.Truth.{Truths, Member, member-all, all-members}
 use Rattle.guarantee.specs.Values.{value-of, value-by, value}
-use Rattle.guarantee.specs.Meaning.{literal, ClaimedKind, Claimed, Sides, Pair, Derived, Asked, every, CompleteAt, Claim, Means}
-use Rattle.guarantee.specs.Growing.{Keeps, side-kept, clause-kept, sides-kept, Onto, derived-onto, complete-onto, claim-onto}
+use Rattle.guarantee.specs.Meaning.{Derived, every, CompleteAt, Claim}
+use Rattle.guarantee.specs.Growing.{Onto, derived-onto, complete-onto, claim-onto}
 use Rattle.guarantee.specs.Defining.{Told}
 
 -- nodes that stay, with all that they link, keep their values

@@ -1,14 +1,14 @@
 -- The leaves that a build adds are tares. Assumes nothing.
-use mathlib.Core.Path.{_≡_, refl, sym, ap, _∙_, subst}
+use mathlib.Core.Path.{_≡_, subst}
 use mathlib.Core.Bool.{Bool, true, false}
-use mathlib.Core.List.{List, [], _∷_, _++_, map}
+use mathlib.Core.List.{List, [], _∷_, map}
 use Prim.Native.Nat.{ℕ, zero, suc, _/_}
 use native.Mathlib.Omega.{arith}
 use lib.Dec.{ltb}
 use lib.ListN.{length, take, drop}
 use lib.IntN.{ℤ, pos}
 use Rattle.rules.specs.Lists.{sort}
-use Rattle.rules.specs.Records.{Kind, leaf, join, dummy, Node, Entry, Record, nodeAt, leaf-node, dummy-node}
+use Rattle.rules.specs.Records.{leaf, join, dummy, Node, Entry, Record, nodeAt, leaf-node, dummy-node}
 use Rattle.rules.specs.Totalizer.{joining, add, merge-by, merge}
 use Rattle.rules.specs.Build.{largest}
 use Rattle.rules.specs.Queue.{run, Sorting, queue-step, queue-run}

@@ -1,22 +1,22 @@
 -- What clauses mean that are derived and complete, in any order and with repeats, whoever wrote them: each claimed output is true where its
 -- node's value reaches it, and giving each output that meaning satisfies them. Assumes nothing.
-use mathlib.Core.Path.{_≡_, refl, sym, ap, ap₂, _∙_, subst}
+use mathlib.Core.Path.{_≡_, refl, sym, ap, ap₂, _∙_}
 use mathlib.Core.Logic.{_≢_}
 use mathlib.Core.Bool.{Bool, true, false, cond, _&&_}
 use mathlib.Core.List.{List, [], _∷_, _++_}
 use Prim.Native.Nat.{ℕ, zero, suc, _+_, _-_, _≤_, _<_, min, max}
 use native.Mathlib.Omega.{arith}
 use lib.Dec.{leb, eqb}
-use lib.IntN.{ℤ, pos, negℤ, natAbs}
+use lib.IntN.{ℤ, pos, natAbs}
 use borrow.Author.Tests.{leb-true, leb-false, le-leb, eqb-true, eq-eqb, ne-eqb}
 use Rattle.rules.specs.Numbers.{lawful}
 use Rattle.rules.specs.Records.{Kind, leaf, join, dummy, Node, Output, Record, nodeAt, outputs}
 use Rattle.rules.specs.Totalizer.{counts, asks, number-in, number-of, literal-of, side, clause}
 use Rattle.laws.specs.Facts.{All, All-map, All-zip}
 use Rattle.laws.specs.Halving.{counts-asks, asks-counts, counts-mono}
-use Rattle.laws.specs.Formed.{Ruled, Sound, Rise}
+use Rattle.laws.specs.Formed.{Sound, Rise}
 use Rattle.guarantee.specs.Truth.{Assign, holds, sat, Sat, Member, member-all, both, not-both, neg-holds, pos-holds, holds-agree, or-left, or-drop, sat-right, sat-one}
-use Rattle.guarantee.specs.Values.{bit, value, value-leaf, value-dummy, value-join, value-most, value-agree}
+use Rattle.guarantee.specs.Values.{bit, value, value-leaf, value-join, value-most, value-agree}
 
 -- output v of node n as a literal
 unfoldable pub literal : List Record → ℕ → ℕ → ℤ

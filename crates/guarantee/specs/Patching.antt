@@ -1,23 +1,23 @@
 -- Buckets brought up to date: their outputs keep the clauses of their former pairs. Assumes nothing.
-use mathlib.Core.Path.{_≡_, refl, sym, ap, ap₂, _∙_, subst}
+use mathlib.Core.Path.{_≡_, refl, sym, ap, _∙_, subst}
 use mathlib.Core.Logic.{_⊎_, inl, inr}
-use mathlib.Core.Bool.{Bool, true, false, cond}
-use mathlib.Core.List.{List, [], _∷_, _++_}
-use Prim.Native.Nat.{ℕ, zero, suc, _+_, _*_, _/_, _≤_, _<_}
+use mathlib.Core.Bool.{Bool, true, false}
+use mathlib.Core.List.{List, [], _∷_}
+use Prim.Native.Nat.{ℕ, zero, suc, _/_, _≤_, _<_}
 use native.Mathlib.Omega.{arith}
 use lib.Dec.{eqb}
-use lib.IntN.{ℤ, pos, natAbs}
+use lib.IntN.{ℤ}
 use borrow.Author.Tests.{eqb-true, eqb-false}
 use Rattle.rules.specs.Records.{Kind, leaf, join, dummy, Node, Output, Record, nodeAt, outputs, left-link, right-link}
-use Rattle.rules.specs.Totalizer.{Arena, counts, asks, number-in, number-of, literal-of, side, clause}
+use Rattle.rules.specs.Totalizer.{counts, asks, number-in, number-of, literal-of, side, clause}
 use Rattle.rules.specs.Refinement.{former-half}
 use Rattle.laws.specs.Facts.{All, All-map, All-zip, occurs, occurs-other}
-use Rattle.laws.specs.Places.{place, join-place}
-use Rattle.laws.specs.Formed.{Ruled, Sound, Rise, Spares, Linked}
-use Rattle.laws.specs.Climbs.{first, Step, Steps, Climbed}
+use Rattle.laws.specs.Places.{place}
+use Rattle.laws.specs.Formed.{Sound, Rise, Spares, Linked}
+use Rattle.laws.specs.Climbs.{first, Steps, Climbed}
 use Rattle.laws.specs.Patches.{links-apart}
-use Rattle.guarantee.specs.Truth.{Member, member-all, all-members}
-use Rattle.guarantee.specs.Meaning.{literal, ClaimedKind, Claimed, Sides, Pair, Derived, Asked, every, CompleteAt, Claim, Means}
+use Rattle.guarantee.specs.Truth.{Member}
+use Rattle.guarantee.specs.Meaning.{literal, ClaimedKind, Claimed, Sides, Pair, Derived, Asked, every, CompleteAt, Claim}
 use Rattle.guarantee.specs.Growing.{join-parts, Keeps, clause-kept, sides-kept}
 use Rattle.guarantee.specs.Defining.{Told}
 

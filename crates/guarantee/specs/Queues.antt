@@ -1,22 +1,22 @@
 -- The queue's law: for every power, what the buckets from there up count plus what waits is always the same. Assumes nothing.
-use mathlib.Core.Path.{_≡_, refl, sym, ap, ap₂, _∙_, subst}
-use mathlib.Core.Bool.{Bool, true, false, cond}
+use mathlib.Core.Path.{_≡_, refl, sym, ap, ap₂, _∙_}
+use mathlib.Core.Bool.{Bool, true, false}
 use mathlib.Core.List.{List, [], _∷_, _++_, map}
 use Prim.Native.Nat.{ℕ, zero, suc, _+_, _*_, _-_, _/_, _^_, _≤_, _<_}
 use native.Mathlib.Omega.{arith}
-use native.Mathlib.Nat.{mul-comm, mul-add, add-mul, mul-assoc, one-mul, mul-zero, zero-mul, pow-succ', pow-zero, add-mul-div-right, div-eq-of-lt, zero-div}
+use native.Mathlib.Nat.{mul-comm, mul-add, add-mul, mul-assoc, one-mul, mul-zero, zero-mul, pow-succ', add-mul-div-right, div-eq-of-lt, zero-div}
 use lib.Dec.{ltb}
-use lib.ListN.{length, getD, set, take, drop, replicate, length-drop, length-set, length-map}
+use lib.ListN.{length, getD, set, drop, length-drop, length-set, length-map}
 use lib.Seq.{drop-set-add, getD-drop}
-use lib.Pow.{pow-pos, pow-add, pow-mono}
-use borrow.Author.Tests.{ltb-true, ltb-false}
+use lib.Pow.{pow-pos, pow-add}
+use borrow.Author.Tests.{ltb-false}
 use Rattle.rules.specs.Lists.{total}
 use Rattle.rules.specs.Digits.{top-bit}
-use Rattle.rules.specs.Records.{Entry, Record}
+use Rattle.rules.specs.Records.{Entry}
 use Rattle.rules.specs.Totalizer.{merge-by, merge}
 use Rattle.rules.specs.Build.{largest}
 use Rattle.rules.specs.Queue.{heavier, run, others, requeue, Sorting, queue-step, queue-run}
-use Rattle.laws.specs.Facts.{All, All-map, total-append}
+use Rattle.laws.specs.Facts.{All, total-append}
 use Rattle.laws.specs.Powers.{top-bit-within, top-bit-least, top-bit-below}
 use Rattle.laws.specs.Sorts.{total-insert}
 use Rattle.laws.specs.Runs.{run-some, run-weight, run-others, step-less}

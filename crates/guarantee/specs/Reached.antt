@@ -1,8 +1,8 @@
 -- Every world that accepted calls reach counts its inputs. Assumes nothing.
 use mathlib.Core.Path.{_≡_, refl, sym, ap, ap₂, _∙_, subst}
 use mathlib.Core.Logic.{_≢_}
-use mathlib.Core.Bool.{Bool, true, false, not, _&&_}
-use mathlib.Core.List.{List, [], _∷_, _++_, zipWith}
+use mathlib.Core.Bool.{Bool, false, not, _&&_}
+use mathlib.Core.List.{List, [], _∷_, zipWith}
 use Prim.Native.Nat.{ℕ, zero, suc, _+_, _*_, _-_, _/_, _^_, _≤_, _<_}
 use native.Mathlib.Omega.{arith}
 use lib.Dec.{ltb}
@@ -11,24 +11,19 @@ use lib.IntN.{ℤ, pos, natAbs}
 use borrow.Author.Tests.{ltb-false, ne-eqb}
 use Rattle.rules.specs.Lists.{total, rising}
 use Rattle.rules.specs.Numbers.{divisor-of}
-use Rattle.rules.specs.Digits.{top-bit}
-use Rattle.rules.specs.Refusals.{divisor-unlawful}
-use Rattle.rules.specs.Records.{Kind, leaf, join, dummy, Node, Output, Entry, node, nodeAt, node-of, outputs, leaf-node}
-use Rattle.rules.specs.Totalizer.{Arena}
+use Rattle.rules.specs.Records.{leaf, dummy, Output, node, nodeAt, node-of, outputs, leaf-node}
 use Rattle.rules.specs.Build.{Build, unbuilt}
-use Rattle.rules.specs.Start.{start-refusal, new-build}
+use Rattle.rules.specs.Start.{new-build}
 use Rattle.rules.specs.Precision.{divisor-coarser}
-use Rattle.rules.specs.Encode.{encode}
-use Rattle.laws.specs.Facts.{All, All-map}
+use Rattle.laws.specs.Facts.{All}
 use Rattle.laws.specs.Places.{place}
-use Rattle.laws.specs.Formed.{Sound, Rise, Formed}
+use Rattle.laws.specs.Formed.{Rise, Formed}
 use Rattle.preserve.specs.Starts.{leaves, no-outputs, Lent, new-formed}
-use Rattle.preserve.specs.Sets.{divisor-power, set-to}
+use Rattle.preserve.specs.Sets.{divisor-power}
 use Rattle.preserve.specs.Reaches.{new-ahead}
 use Rattle.guarantee.specs.Truth.{Truths}
 use Rattle.guarantee.specs.Values.{bit, value, value-leaf}
 use Rattle.guarantee.specs.Meaning.{every, CompleteAt, Claim}
-use Rattle.guarantee.specs.Defining.{Told}
 use Rattle.guarantee.specs.Queues.{waited}
 use Rattle.guarantee.specs.Answers.{sum-of}
 use Rattle.guarantee.specs.Worlds.{Leads, here, then-set, then-encode, World, Follows, follows-self, follows-then, encode-world, set-world, set-follows}

@@ -1,45 +1,43 @@
 -- Refinement whole: the refined build weighs the inputs at the finer divisor, and its clauses mean its outputs. Assumes nothing.
 use mathlib.Core.Path.{_≡_, refl, sym, ap, ap₂, _∙_, subst}
-use mathlib.Core.Logic.{_≢_, _⊎_, inl, inr}
+use mathlib.Core.Logic.{_≢_}
 use mathlib.Core.Bool.{Bool, true, false}
-use mathlib.Core.List.{List, [], _∷_, _++_, map, reverse}
-use Prim.Native.Nat.{ℕ, zero, suc, _+_, _*_, _-_, _/_, _^_, _≤_, _<_}
+use mathlib.Core.List.{List, [], _∷_, _++_, map}
+use Prim.Native.Nat.{ℕ, zero, suc, _+_, _*_, _-_, _^_, _≤_, _<_}
 use native.Mathlib.Omega.{arith}
 use native.Mathlib.Nat.{one-mul, mul-add, mul-assoc}
-use lib.ListN.{length, getD, take, drop, replicate, length-append, length-drop, length-replicate, take-append-drop}
+use lib.ListN.{length, take, drop, replicate, length-append, length-drop, length-replicate, take-append-drop}
 use lib.Seq.{length-take-le}
-use lib.IntN.{ℤ, pos, natAbs}
+use lib.IntN.{ℤ}
 use lib.Pow.{pow-pos, pow-add}
-use Rattle.rules.specs.Lists.{rising, in-turn}
+use Rattle.rules.specs.Lists.{rising}
 use Rattle.rules.specs.Digits.{top-bit}
-use Rattle.rules.specs.Records.{Kind, leaf, join, dummy, Node, Output, Entry, Record, nodeAt, outputs, left-link, right-link}
-use Rattle.rules.specs.Totalizer.{Arena}
-use Rattle.rules.specs.Build.{Build, restructured, with-arena, largest, some-wait}
+use Rattle.rules.specs.Records.{Kind, join, Node, Entry, Record, nodeAt, outputs, left-link}
+use Rattle.rules.specs.Build.{Build, largest, some-wait}
 use Rattle.rules.specs.Queue.{Sorting, queue-run, gathered}
 use Rattle.rules.specs.Buckets.{buckets-over}
-use Rattle.rules.specs.Refinement.{relink, former-half, tares-left-out, patched, extend-bucket, merge-structures}
+use Rattle.rules.specs.Refinement.{tares-left-out}
 use Rattle.laws.specs.Facts.{All, All-map, All-append, All-drop, All-self, occurs, occurs-none, rising-length}
 use Rattle.laws.specs.Powers.{top-bit-least}
 use Rattle.laws.specs.Places.{place, place-inside, join-place}
-use Rattle.laws.specs.Formed.{Sound, Spares, Linked, Built, Formed}
-use Rattle.laws.specs.Grows.{Grown, grown-then, grown-length, grown-at, grown-place, grown-outputs}
+use Rattle.laws.specs.Formed.{Sound, Linked, Built, Formed}
+use Rattle.laws.specs.Grows.{Grown, grown-then, grown-place}
 use Rattle.laws.specs.Runs.{some-waits}
-use Rattle.laws.specs.Standings.{Standing, linked-grown, lefts-grown}
+use Rattle.laws.specs.Standings.{linked-grown, lefts-grown}
 use Rattle.laws.specs.Towers.{Tower}
-use Rattle.laws.specs.Climbs.{climb, relink-climb, linked-joins, Climbed, climbed, Step, Steps}
+use Rattle.laws.specs.Climbs.{climb, linked-joins, Climbed, climbed}
 use Rattle.laws.specs.Patches.{links-apart}
 use Rattle.preserve.specs.Gathered.{begun, Gathered, gathered-made}
-use Rattle.preserve.specs.Given.{Ahead, waiting-below, buckets-there, buckets-inside}
-use Rattle.preserve.specs.Refines.{built-tower}
-use Rattle.guarantee.specs.Truth.{Truths, Member}
+use Rattle.preserve.specs.Given.{waiting-below, buckets-there, buckets-inside}
+use Rattle.guarantee.specs.Truth.{Truths}
 use Rattle.guarantee.specs.Values.{value, value-leaf, value-dummy, value-join}
 use Rattle.guarantee.specs.Sums.{Begins, begins-then, begins-length, begins-at, Reads, reads-before}
 use Rattle.guarantee.specs.Queues.{heap, waited, waited-none, waited-cong, run-begins}
 use Rattle.guarantee.specs.Filling.{filled-law}
 use Rattle.guarantee.specs.Chains.{units, tare-sum, tops, tops-length}
-use Rattle.guarantee.specs.Bucketing.{Filled, Inside, counted, over-begins, over-all, tops-begins}
-use Rattle.guarantee.specs.Keeping.{value-stays, told-more}
-use Rattle.guarantee.specs.Patching.{former, moved, either, told-moved}
+use Rattle.guarantee.specs.Bucketing.{Inside, counted, over-all}
+use Rattle.guarantee.specs.Keeping.{value-stays}
+use Rattle.guarantee.specs.Patching.{moved}
 use Rattle.guarantee.specs.Answers.{sum-of}
 use Rattle.guarantee.specs.Weighing.{values, WeighsBuilt}
 use Rattle.guarantee.specs.Refining.{filled-all, heap-append, lefts, tops-lefts, tops-append, refined-sum}

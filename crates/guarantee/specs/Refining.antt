@@ -1,22 +1,18 @@
 -- A refined build weighs the inputs at the finer divisor. Assumes nothing.
-use mathlib.Core.Path.{_≡_, refl, sym, ap, ap₂, _∙_, subst}
-use mathlib.Core.Logic.{_≢_, _⊎_, inl, inr}
-use mathlib.Core.Bool.{Bool, true, false}
+use mathlib.Core.Path.{_≡_, refl, sym, ap, _∙_}
+use mathlib.Core.Bool.{Bool, true}
 use mathlib.Core.List.{List, [], _∷_, _++_, map, append-assoc}
-use Prim.Native.Nat.{ℕ, zero, suc, _+_, _*_, _-_, _/_, _^_, _≤_, _<_, min}
+use Prim.Native.Nat.{ℕ, zero, suc, _+_, _*_, _-_, _^_, _≤_}
 use native.Mathlib.Omega.{arith}
-use native.Mathlib.Nat.{one-mul, mul-add, add-mul, mul-assoc, mul-comm, zero-mul, mul-zero}
-use lib.ListN.{length, take, drop, replicate, length-append, length-map, length-drop, length-take, length-replicate, take-append-drop}
-use lib.IntN.{ℤ}
+use native.Mathlib.Nat.{mul-add, mul-assoc, mul-comm}
+use lib.ListN.{length, drop, replicate, length-append, length-map, length-drop}
 use lib.Pow.{pow-add}
 use Rattle.rules.specs.Lists.{total}
-use Rattle.rules.specs.Records.{Node, Record, nodeAt, left-link}
-use Rattle.laws.specs.Facts.{All, All-map, occurs}
-use Rattle.laws.specs.Formed.{Linked}
+use Rattle.rules.specs.Records.{Node, left-link}
 use Rattle.guarantee.specs.Truth.{Truths}
 use Rattle.guarantee.specs.Queues.{heap}
-use Rattle.guarantee.specs.Chains.{units, units-append, tare-sum, tare-append, tops, tops-length}
-use Rattle.guarantee.specs.Bucketing.{Some, Filled}
+use Rattle.guarantee.specs.Chains.{units, units-append, tare-sum, tare-append, tops}
+use Rattle.guarantee.specs.Bucketing.{Filled}
 
 -- every bucket has a tare
 pub filled-all : (tares : List ℕ) (mss : List (List ℕ)) → length mss ≤ length tares → Filled tares mss

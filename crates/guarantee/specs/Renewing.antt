@@ -1,21 +1,19 @@
 -- A refinement keeps what a build weighs and what its clauses mean. Assumes nothing.
-use mathlib.Core.Path.{_≡_, refl, sym, ap, ap₂, _∙_, subst}
-use mathlib.Core.Logic.{_≢_, _⊎_, inl, inr}
-use mathlib.Core.Bool.{Bool, true, false}
+use mathlib.Core.Path.{_≡_, refl, sym, ap, _∙_, subst}
+use mathlib.Core.Logic.{_≢_, _⊎_, inl}
+use mathlib.Core.Bool.{Bool, true}
 use mathlib.Core.List.{List, [], _∷_, _++_, map, reverse}
-use Prim.Native.Nat.{ℕ, zero, suc, _+_, _*_, _-_, _/_, _^_, _≤_, _<_}
+use Prim.Native.Nat.{ℕ, suc, _+_, _*_, _-_, _/_, _^_, _≤_, _<_}
 use native.Mathlib.Omega.{arith}
-use lib.ListN.{length, getD, take, drop, length-append}
+use lib.ListN.{length, getD, drop}
 use lib.IntN.{ℤ, pos}
-use Rattle.rules.specs.Lists.{rising, in-turn}
 use Rattle.rules.specs.Digits.{top-bit}
-use Rattle.rules.specs.Records.{Kind, leaf, join, dummy, Node, Output, Record, nodeAt, outputs, right-link}
-use Rattle.rules.specs.Totalizer.{Arena}
-use Rattle.rules.specs.Build.{Build, restructured, with-arena, largest, some-wait}
+use Rattle.rules.specs.Records.{Kind, leaf, join, Node, Output, Record, nodeAt, outputs, right-link}
+use Rattle.rules.specs.Build.{Build, restructured, with-arena, largest}
 use Rattle.rules.specs.Buckets.{buckets-over}
 use Rattle.rules.specs.Queue.{gathered}
-use Rattle.rules.specs.Refinement.{relink, former-half, tares-left-out, patched, extend-bucket, merge-structures}
-use Rattle.laws.specs.Facts.{All, All-map, All-append, All-second, All-self, rising-length, occurs, occurs-none, All-occurs}
+use Rattle.rules.specs.Refinement.{relink, former-half, tares-left-out, patched, merge-structures}
+use Rattle.laws.specs.Facts.{All, All-map, All-append, All-second, rising-length, occurs, occurs-none, All-occurs}
 use Rattle.laws.specs.Places.{place, place-inside, leaf-place, join-place}
 use Rattle.laws.specs.Formed.{Sound, Formed}
 use Rattle.laws.specs.Keeps.{All-take, All-reverse}
@@ -25,21 +23,21 @@ use Rattle.laws.specs.Climbs.{climb, relink-climb}
 use Rattle.preserve.specs.Gathered.{begun}
 use Rattle.preserve.specs.Given.{Ahead}
 use Rattle.preserve.specs.Refines.{built-tower, held}
-use Rattle.preserve.specs.Refinements.{Refined, patched-refined}
+use Rattle.preserve.specs.Refinements.{patched-refined}
 use Rattle.guarantee.specs.Truth.{Truths, Member, all-members}
-use Rattle.guarantee.specs.Meaning.{Asked, every}
-use Rattle.guarantee.specs.Defining.{Told, Grown, Over}
+use Rattle.guarantee.specs.Meaning.{every}
+use Rattle.guarantee.specs.Defining.{Told, Grown}
 use Rattle.guarantee.specs.Sums.{Begins, begins-at, Reads}
 use Rattle.guarantee.specs.Bucketing.{counted, over-begins}
 use Rattle.guarantee.specs.Queues.{heap}
 use Rattle.guarantee.specs.Chains.{tare-sum}
 use Rattle.guarantee.specs.Keeping.{told-more}
-use Rattle.guarantee.specs.Patching.{former, moved, told-moved}
+use Rattle.guarantee.specs.Patching.{former, told-moved}
 use Rattle.guarantee.specs.Extending.{told-asked, buckets-told}
 use Rattle.guarantee.specs.Leaves.{run-keeps, over-keeps}
 use Rattle.guarantee.specs.Telling.{Free, free-leaves, free-fresh, free-tares, occurs-reverse}
 use Rattle.guarantee.specs.Weighing.{WeighsBuilt}
-use Rattle.guarantee.specs.Refined.{old, B, q, wait, fresh-tares, own, mss, R, segment, up, chain-rs, grown, begins-all, bucket-joins, left, refined-counts, refined-rest, refined-left, at-left, mss-count}
+use Rattle.guarantee.specs.Refined.{old, q, wait, fresh-tares, own, mss, R, segment, up, chain-rs, grown, begins-all, bucket-joins, left, refined-counts, refined-rest, refined-left}
 
 module _ (b : Build) (f : Formed b) (built : b .built ≢ 0) (reach : b .set ≤ largest (b .queue)) where
   -- the build over new buckets `lower` among the records `rs`

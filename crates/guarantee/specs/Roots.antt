@@ -1,10 +1,10 @@
 -- The root's value: the sum of all parts, divided by the output weight, rounded down. Left-out tares make no difference. Assumes nothing.
-use mathlib.Core.Path.{_≡_, refl, sym, ap, ap₂, _∙_, subst}
+use mathlib.Core.Path.{_≡_, sym, ap, ap₂, _∙_, subst}
 use mathlib.Core.Bool.{Bool}
-use mathlib.Core.List.{List, [], _∷_, _++_, map}
-use Prim.Native.Nat.{ℕ, zero, suc, _+_, _*_, _-_, _/_, _^_, _≤_, _<_}
+use mathlib.Core.List.{List, [], _∷_, map}
+use Prim.Native.Nat.{ℕ, _+_, _*_, _-_, _/_, _^_, _<_}
 use native.Mathlib.Omega.{arith}
-use native.Mathlib.Nat.{mul-comm, add-mul-div-left, div-div-eq-div-mul, div-eq-of-lt}
+use native.Mathlib.Nat.{add-mul-div-left, div-div-eq-div-mul, div-eq-of-lt}
 use lib.ListN.{length, length-map, length-take, take, drop, take-append-drop}
 use lib.Pow.{pow-pos, pow-add}
 use Rattle.rules.specs.Records.{Node}

@@ -1,14 +1,14 @@
 -- A merged list counts what its members count; nodes made since some place are read off the records at the end. Assumes nothing.
-use mathlib.Core.Path.{_≡_, refl, sym, ap, ap₂, _∙_, subst}
+use mathlib.Core.Path.{_≡_, refl, sym, ap, ap₂, _∙_}
 use mathlib.Core.Bool.{Bool, true, false}
 use mathlib.Core.List.{List, [], _∷_, _++_, map, append-assoc, append-nil}
-use Prim.Native.Nat.{ℕ, zero, suc, _+_, _*_, _-_, _/_, _≤_, _<_}
+use Prim.Native.Nat.{ℕ, zero, suc, _+_, _-_, _/_, _≤_, _<_}
 use native.Mathlib.Omega.{arith}
 use lib.ListN.{length, length-append, take, drop, take-append-drop, length-take, length-drop}
 use lib.IntN.{ℤ}
 use Rattle.rules.specs.Lists.{total}
 use Rattle.rules.specs.Records.{leaf, join, dummy, Node, Output, Record, node, nodeAt, outputs}
-use Rattle.rules.specs.Totalizer.{counts, joining, add, merge-by, merge}
+use Rattle.rules.specs.Totalizer.{counts, joining, add, merge-by}
 use Rattle.laws.specs.Facts.{All, total-append}
 use Rattle.laws.specs.Places.{place, place-inside, leaf-place, join-place, nodeAt-append, nodeAt-last, outputs-append}
 use Rattle.laws.specs.Formed.{Sound}

@@ -1,38 +1,30 @@
 -- A first build, a refinement and encode's outputs keep the clauses meaning what the outputs say. Assumes nothing.
-use mathlib.Core.Path.{_≡_, refl, sym, ap, ap₂, _∙_, subst}
-use mathlib.Core.Logic.{_≢_, _⊎_, inl, inr}
+use mathlib.Core.Path.{_≡_, refl, sym, ap, _∙_, subst}
+use mathlib.Core.Logic.{_≢_}
 use mathlib.Core.Bool.{Bool, true, false, cond}
 use mathlib.Core.List.{List, [], _∷_, _++_, map, reverse, reverse-cons}
-use Prim.Native.Nat.{ℕ, zero, suc, _+_, _*_, _-_, _/_, _^_, _≤_, _<_, min}
+use Prim.Native.Nat.{ℕ, suc, _+_, _-_, _≤_, _<_}
 use native.Mathlib.Omega.{arith}
 use lib.Dec.{eqb}
-use lib.ListN.{length, getD, take, drop}
+use lib.ListN.{length, drop}
 use lib.IntN.{ℤ, pos, natAbs}
-use borrow.Author.Tests.{eqb-true, eqb-false}
 use Rattle.rules.specs.Lists.{rising, in-turn}
 use Rattle.rules.specs.Digits.{digits, top-bit}
-use Rattle.rules.specs.Records.{Kind, leaf, join, dummy, Node, Output, Entry, Record, nodeAt, outputs, right-link}
+use Rattle.rules.specs.Records.{Node, Output, Record, nodeAt, outputs}
 use Rattle.rules.specs.Totalizer.{Arena, define, define-output}
-use Rattle.rules.specs.Build.{Build, restructured, with-arena, largest, some-wait}
+use Rattle.rules.specs.Build.{Build, restructured, largest, some-wait}
 use Rattle.rules.specs.Queue.{Sorting, gathered}
-use Rattle.rules.specs.Buckets.{buckets-over, build-structure}
-use Rattle.rules.specs.Refinement.{relink, former-half, tares-left-out, patched, extend-bucket, merge-structures}
-use Rattle.laws.specs.Facts.{All, All-map, All-append, All-self, All-rising, All-source, rising-length, occurs, occurs-append, occurs-here, occurs-other, occurs-more}
-use Rattle.laws.specs.Places.{place, place-inside, join-place}
-use Rattle.laws.specs.Formed.{Sound, Spares, Linked, Built, Taken, Formed}
-use Rattle.laws.specs.Grows.{Grown, grown-then, grown-at, grown-outputs}
-use Rattle.laws.specs.Towers.{Tower}
-use Rattle.laws.specs.Climbs.{climb, relink-climb, Climbed}
-use Rattle.preserve.specs.Gathered.{begun, Gathered, gathered-made}
-use Rattle.guarantee.specs.Truth.{Member, all-members}
-use Rattle.guarantee.specs.Meaning.{Asked, every, Claim, Means}
+use Rattle.rules.specs.Buckets.{build-structure}
+use Rattle.laws.specs.Facts.{All, All-map, All-self, All-rising, All-source, rising-length, occurs, occurs-append, occurs-here, occurs-more}
+use Rattle.laws.specs.Places.{place, place-inside}
+use Rattle.laws.specs.Formed.{Sound}
+use Rattle.preserve.specs.Gathered.{begun}
+use Rattle.guarantee.specs.Meaning.{every}
 use Rattle.guarantee.specs.Defining.{Told, Over, Defines, define-defines, over-defines, defines-self, defines-then}
 use Rattle.guarantee.specs.Sums.{Begins, begins-at, begins-then}
 use Rattle.guarantee.specs.Queues.{run-begins}
 use Rattle.guarantee.specs.Bucketing.{over-begins}
 use Rattle.guarantee.specs.Keeping.{told-more}
-use Rattle.guarantee.specs.Patching.{former, Moved, moved, told-moved}
-use Rattle.guarantee.specs.Extending.{told-asked, buckets-told}
 use Rattle.guarantee.specs.Leaves.{Leaves, run-keeps, over-keeps}
 
 -- a number that does not stand in a list differs from each that does

@@ -7,7 +7,7 @@ use lib.IntN.{ℤ}
 use Rattle.rules.specs.Records.{Kind, leaf, join, dummy, Node}
 use Rattle.rules.specs.Totalizer.{counts}
 use Rattle.laws.specs.Halving.{counts-mono}
-use Rattle.laws.specs.Formed.{Ruled, Sound}
+use Rattle.laws.specs.Formed.{Sound}
 use Rattle.guarantee.specs.Truth.{Truths}
 
 -- a truth value as a number

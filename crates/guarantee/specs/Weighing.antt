@@ -1,26 +1,23 @@
 -- What a build weighs: its buckets the inputs' weights divided by the built divisor, what waits the rest. Assumes nothing.
-use mathlib.Core.Path.{_≡_, refl, sym, ap, ap₂, _∙_, subst}
-use mathlib.Core.Logic.{_≢_}
-use mathlib.Core.Bool.{Bool, true, false}
-use mathlib.Core.List.{List, [], _∷_, _++_, map}
-use Prim.Native.Nat.{ℕ, zero, suc, _+_, _*_, _-_, _/_, _^_, _≤_, _<_}
+use mathlib.Core.Path.{_≡_, refl, sym, ap, _∙_, subst}
+use mathlib.Core.Bool.{true}
+use mathlib.Core.List.{List, [], _∷_, map}
+use Prim.Native.Nat.{ℕ, suc, _+_, _*_, _-_, _^_, _≤_, _<_}
 use native.Mathlib.Omega.{arith}
 use native.Mathlib.Nat.{one-mul}
 use lib.ListN.{length, getD, drop, length-drop}
 use lib.Seq.{getD-drop}
 use lib.IntN.{ℤ}
-use lib.Pow.{pow-pos}
 use Rattle.rules.specs.Lists.{rising}
 use Rattle.rules.specs.Digits.{digits, top-bit}
-use Rattle.rules.specs.Records.{join, Node, Entry, Record, nodeAt}
+use Rattle.rules.specs.Records.{Record, nodeAt}
 use Rattle.rules.specs.Build.{Build, restructured, unbuilt, largest, some-wait}
 use Rattle.rules.specs.Queue.{Sorting, queue-run, gathered}
 use Rattle.rules.specs.Buckets.{buckets-over, build-structure}
 use Rattle.laws.specs.Facts.{All, All-map, All-drop, rising-length}
 use Rattle.laws.specs.Places.{place, place-inside}
-use Rattle.laws.specs.Powers.{digits-top, below-digits, top-bit-least, top-bit-power}
+use Rattle.laws.specs.Powers.{digits-top, below-digits, top-bit-least}
 use Rattle.laws.specs.Formed.{Sound, Formed}
-use Rattle.laws.specs.Gathers.{Gathers}
 use Rattle.preserve.specs.Gathered.{begun, Gathered, gathered-made}
 use Rattle.guarantee.specs.Truth.{Truths}
 use Rattle.guarantee.specs.Values.{value}
@@ -28,7 +25,7 @@ use Rattle.guarantee.specs.Sums.{Begins, begins-then, begins-length, beg
 use Rattle.guarantee.specs.Queues.{heap, waited, waited-none, waited-cong, run-begins}
 use Rattle.guarantee.specs.Filling.{filled-law}
 use Rattle.guarantee.specs.Chains.{units, tare-sum, tops}
-use Rattle.guarantee.specs.Bucketing.{Filled, Some, Inside, counted, over-begins, over-all}
+use Rattle.guarantee.specs.Bucketing.{Filled, Inside, counted, over-begins, over-all}
 use Rattle.guarantee.specs.Keeping.{value-stays}
 use Rattle.guarantee.specs.Answers.{sum-of}
 

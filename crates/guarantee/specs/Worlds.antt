@@ -2,41 +2,38 @@
 -- inputs. Refused calls, enforce, coarse and the precision calls leave a world as it is. Assumes nothing.
 use mathlib.Core.Path.{_≡_, refl, sym, ap, ap₂, _∙_, subst}
 use mathlib.Core.Logic.{_≢_}
-use mathlib.Core.Bool.{Bool, true, false, not, _&&_, _||_}
-use mathlib.Core.List.{List, [], _∷_, _++_, map, zipWith, reverse, append-assoc, append-nil}
-use Prim.Native.Nat.{ℕ, zero, suc, _+_, _*_, _-_, _/_, _^_, _≤_, _<_}
+use mathlib.Core.Bool.{Bool, true, false, not, _&&_}
+use mathlib.Core.List.{List, [], _∷_, _++_, map, reverse, append-assoc, append-nil}
+use Prim.Native.Nat.{ℕ, _+_, _*_, _-_, _^_, _≤_, _<_}
 use native.Mathlib.Omega.{arith}
 use native.Mathlib.Nat.{one-mul, mul-assoc, mul-comm}
-use lib.Dec.{eqb, leb, ltb}
+use lib.Dec.{leb, ltb}
 use lib.ListN.{length, getD, drop, length-append}
-use lib.IntN.{ℤ, pos, natAbs}
-use lib.Pow.{pow-pos, pow-add}
-use borrow.Author.Tests.{eqb-true, eqb-false, ne-eqb, ltb-true, ltb-false, leb-true, leb-false}
+use lib.IntN.{ℤ, pos}
+use lib.Pow.{pow-add}
+use borrow.Author.Tests.{eqb-true, ne-eqb, ltb-false, leb-true}
 use Rattle.rules.specs.Lists.{total, rising, in-turn}
 use Rattle.rules.specs.Numbers.{divisor-of}
 use Rattle.rules.specs.Digits.{top-bit}
 use Rattle.rules.specs.Refusals.{divisor-unlawful}
-use Rattle.rules.specs.Records.{Kind, leaf, join, dummy, Node, Output, Entry, Record, node, nodeAt, node-of, outputs, leaf-node}
+use Rattle.rules.specs.Records.{leaf, Node, Output, Record, nodeAt, outputs}
 use Rattle.rules.specs.Totalizer.{Arena, define-output}
 use Rattle.rules.specs.Build.{Build, restructured, with-arena, unbuilt, root, root-node, largest, some-wait}
 use Rattle.rules.specs.Buckets.{build-structure}
 use Rattle.rules.specs.Refinement.{due, patched, merge-structures}
-use Rattle.rules.specs.Start.{start-refusal, new-build}
 use Rattle.rules.specs.Precision.{divisor-coarser}
 use Rattle.rules.specs.Encode.{prepared, root-values, encode-outputs, nothing-asked, encode, divisor-above}
-use Rattle.laws.specs.Facts.{All, All-map, rising-length, neither}
+use Rattle.laws.specs.Facts.{rising-length, neither}
 use Rattle.laws.specs.Places.{place, place-inside, leaf-place}
 use Rattle.laws.specs.Powers.{top-bit-least}
-use Rattle.laws.specs.Formed.{Sound, Formed, Built}
-use Rattle.preserve.specs.Starts.{Lent, lent, new-formed}
+use Rattle.laws.specs.Formed.{Formed, Built}
 use Rattle.preserve.specs.Given.{Ahead}
 use Rattle.preserve.specs.Sets.{set-to, set-formed}
 use Rattle.preserve.specs.Refinements.{merged-fresh}
 use Rattle.preserve.specs.Encodes.{Ready, values-within, outputs-formed, first-ready, refined-ready, still-built, prepared-cases, encode-fresh}
-use Rattle.guarantee.specs.Truth.{Truths, Member}
 use Rattle.guarantee.specs.Values.{value}
 use Rattle.guarantee.specs.Meaning.{every}
-use Rattle.guarantee.specs.Defining.{Told, Grown, grown-nodes, grown-outputs, Defines, Over}
+use Rattle.guarantee.specs.Defining.{Told, Grown, grown-nodes, grown-outputs, Defines}
 use Rattle.guarantee.specs.Sums.{Begins, begins-at, begins-outputs}
 use Rattle.guarantee.specs.Chains.{units, tare-sum, tops}
 use Rattle.guarantee.specs.Queues.{waited}

@@ -8,7 +8,12 @@
 //     a PLACE W       W in one word of the store
 //     s FIRST, p DIVISOR, e LO END, u BOUND SCRATCH, c BOUND, n, m
 //                     start, set_precision, encode_ub_change, enforce_ub, coarse_ub, next_precision, is_max_precision
+//     t               the totals of clauses and of variables
 //     w               every lent word of the store and of the clause buffer
+//     S, P, E         the same calls, of whose answer only the refusal number is printed
+//     U BOUND         enforce_ub in words that no number of a variable is in: for each literal o and the value of the root's
+//                     output, t and the power of a tare, or i and an input's literal; then how many assignments of the inputs
+//                     the clauses and the answer admit, and the digest of their numbers
 //
 // A call's line is printed back, then what it answers; r and a number is a refusal. After start, set and encode that is the
 // refusal number or 0, for encode both totals, the state's fields, for its tares and its buckets how many are used, these, and
@@ -16,6 +21,7 @@
 // words, of the others, of the work slice. After enforce: the refusal number or 0, how many literals, their words, count and
 // digest of a scratch of 20 that held 7, whose first SCRATCH words were lent. A clause word is printed and digested as its
 // literal's word. A digest goes through the words in order: h = (16777619 h + w) mod 4294967291, from 0.
+use libc::STDIN_FILENO;
 use libc::STDOUT_FILENO;
 use rules::Coarse;
 use rules::Maximum;
@@ -46,6 +52,9 @@ fn start(
     let answer = r.answer;
     let t = r.state;
     history_print::number(history_print::refusal(answer));
+    if history_text::brief(line) {
+        return t;
+    }
     history_print::state(t);
     history_print::lent(t, store, clauses, work);
     t
@@ -57,6 +66,9 @@ fn set(line: &[u8], s: State, store: &[u32], clauses: &[i32], work: &[u32]) -> S
     let answer = r.answer;
     let t = r.state;
     history_print::number(history_print::refusal(answer));
+    if history_text::brief(line) {
+        return t;
+    }
     history_print::state(t);
     history_print::lent(t, store, clauses, work);
     t
@@ -81,6 +93,9 @@ fn encode(
     let answer = r.answer;
     let t = r.state;
     history_print::number(history_print::refusal(answer));
+    if history_text::brief(line) {
+        return t;
+    }
     history_print::number(r.clauses as u64);
     history_print::number(r.variables as u64);
     history_print::state(t);
@@ -115,6 +130,21 @@ fn enforce(line: &[u8], s: State, store: &[u32], clauses: &[i32]) {
     enforced_in_front(line, s, store, clauses, &mut scratch);
 }
 
+// Enforce: refusal number, roles, assignments admitted. Grows as enforce does, and with assignments times clauses.
+fn meaning(line: &[u8], s: State, lits: &[i32], store: &[u32], clauses: &[i32]) {
+    let mut scratch = [0i32; 20];
+    let mut refused: u32 = 7;
+    let u = history_text::number(line, 1);
+    let part = watchdog_enforce::enforce_ub(s, store, clauses, &mut scratch, u, &mut refused);
+    history_print::number(refused as u64);
+    if refused != 0 {
+        return;
+    }
+    history_loads::roles(s, store, part);
+    history_print::bar();
+    history_loads::loads(s, lits, clauses, part);
+}
+
 // Coarse_ub. Grows as that does.
 fn coarse(line: &[u8], s: State, store: &[u32], clauses: &[i32]) {
     let p = watchdog_precision::coarse_ub(s, store, clauses, history_text::number(line, 1));
@@ -143,6 +173,12 @@ fn maximum(s: State, store: &[u32], clauses: &[i32]) {
     }
 }
 
+// Both totals. Constant time.
+fn totals(s: State) {
+    history_print::number(s.clauses as u64);
+    history_print::number(s.variables as u64);
+}
+
 // All lent words of store and clause buffer. Linear in them.
 fn show(store: &[u32], clauses: &[i32]) {
     history_print::words(store, 0, store.len());
@@ -158,6 +194,7 @@ fn read(line: &[u8], s: State, store: &[u32], clauses: &[i32]) {
         b'c' => coarse(line, s, store, clauses),
         b'n' => next(s, store, clauses),
         b'm' => maximum(s, store, clauses),
+        b't' => totals(s),
         b'w' => show(store, clauses),
         _ => history_print::refused(0),
     }
@@ -173,7 +210,7 @@ fn call(
     clauses: &mut [i32],
     work: &mut [u32],
 ) -> State {
-    let letter = history_text::byte(line, 0);
+    let letter = history_text::letter(line);
     io::write_all(STDOUT_FILENO, line);
     io::write_all(STDOUT_FILENO, b":");
     if letter == b's' {
@@ -184,6 +221,10 @@ fn call(
     }
     if letter == b'e' {
         return encode(line, s, store, clauses, work);
+    }
+    if history_text::byte(line, 0) == b'U' {
+        meaning(line, s, lits, store, clauses);
+        return s;
     }
     read(line, s, store, clauses);
     s
@@ -423,4 +464,35 @@ pub fn play(
         w = line(&text[from..to], w, lits, weights, store, clauses, work);
         from = next_line(text, from, to);
     }
+}
+
+// Every line of the text over these buffers. Grows as the calls do.
+fn play_over(
+    text: &[u8],
+    lits: &mut [i32; 256],
+    weights: &mut [u64; 256],
+    store: &mut [u32; 24000],
+    clauses: &mut [i32; 50000],
+    work: &mut [u32; 16384],
+) {
+    play(text, lits, weights, store, clauses, work);
+}
+
+// The histories of standard input, over buffers with room for 3,000 records and 50,000 clause words. Grows as the calls do.
+pub fn play_input() {
+    let mut text = io::large_buffer();
+    let mut lits = [0i32; 256];
+    let mut weights = [0u64; 256];
+    let mut work = [0u32; 16384];
+    let mut store = [0u32; 24000];
+    let mut clauses = [0i32; 50000];
+    let n = io::read_full(STDIN_FILENO, &mut text);
+    play_over(
+        &text[..n],
+        &mut lits,
+        &mut weights,
+        &mut store,
+        &mut clauses,
+        &mut work,
+    );
 }

@@ -39,7 +39,7 @@ pub fn literals(c: &[i32]) {
 }
 
 // A digest with one more word. Constant time.
-fn digest_with(h: u64, w: u32) -> u64 {
+pub fn digest_with(h: u64, w: u32) -> u64 {
     (16777619 * (h % 4294967291) + (w as u64)) % 4294967291
 }
 

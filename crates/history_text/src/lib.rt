@@ -8,6 +8,24 @@ pub fn byte(line: &[u8], i: usize) -> u8 {
     0
 }
 
+// Whether the line begins with a capital. Constant time.
+pub fn brief(line: &[u8]) -> bool {
+    let letter = byte(line, 0);
+    64 < letter && letter < 91
+}
+
+// The letter that the line begins with, a capital made small. Constant time.
+pub fn letter(line: &[u8]) -> u8 {
+    let letter = byte(line, 0);
+    if letter < 65 {
+        return letter;
+    }
+    if 90 < letter {
+        return letter;
+    }
+    letter + 32
+}
+
 // The number with one more digit; a byte that is none, or one that takes it past 64 bits, changes nothing. Constant time.
 fn with_digit(v: u64, b: u8) -> u64 {
     if b < 48 {

@@ -4,7 +4,7 @@ use mathlib.Core.Path.{_≡_, refl, _∙_, ap, ap₂}
 use mathlib.Core.Bool.{Bool, true, false}
 use mathlib.Core.List.{List, [], _∷_, _++_, map, reverse, append-assoc}
 use Prim.Native.Nat.{ℕ, zero, suc}
-use lib.Dec.{ltb, eqb}
+use lib.Dec.{eqb}
 use lib.IntN.{ℤ}
 use Rattle.rules.specs.Lists.{in-turn, keep}
 use Rattle.rules.specs.Records.{Kind, leaf, join, dummy, Output, Record, nodeAt, left-link, right-link, outputs}

@@ -1,6 +1,6 @@
 -- Bit lengths do not depend on the fuel, and powers of two fit. Assumes nothing.
 use mathlib.Core.Path.{_≡_, refl, sym, ap, _∙_}
-use Prim.Native.Nat.{ℕ, zero, suc, _+_, _*_, _-_, _/_, _%_, _<_, _≤_, _^_, max}
+use Prim.Native.Nat.{ℕ, zero, suc, _+_, _-_, _/_, _%_, _<_, _≤_, _^_}
 use native.Mathlib.Nat.{mod-eq-of-lt, mul-mod-right, pow-succ'}
 use native.Mathlib.Omega.{arith}
 use lib.Pow.{pow-lt, pow-add, pow-pos}

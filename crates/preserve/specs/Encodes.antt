@@ -64,14 +64,18 @@ values-within b lo end =
     All-rising (λ v. (1 ≤ v) × (v ≤ root-node b .maximum)) (min (suc ((end - 1) / w)) (root-node b .maximum) - lo / w) (suc (lo / w))
     (λ v a h. (omega arith, fit (suc ((end - 1) / w)) (root-node b .maximum) (lo / w) v h a))
 
-pub root-there : (b : Build) → Formed b → b .built ≢ 0 → place (b .arena .records) (root b) ≡ true
+-- the root of a build is a join
+pub root-join : (b : Build) → Formed b → b .built ≢ 0 → (half : Bool) × (l : ℕ) × (r : ℕ) × (nodeAt (b .arena .records) (root b) .kind ≡ join half l r)
 unfolding root
-root-there b f n = go (b .buckets) (f .if-built n .some) (linked-joins (nodeAt (b .arena .records)) _ (b .buckets) (f .if-built n .linked))
+root-join b f n = go (b .buckets) (f .if-built n .some) (linked-joins (nodeAt (b .arena .records)) _ (b .buckets) (f .if-built n .linked))
   where
-    go : (bs : List ℕ) → 1 ≤ length bs → All (λ c. (half : Bool) × (l : ℕ) × (r : ℕ) × (nodeAt (b .arena .records) c .kind ≡ join half l r))
-        bs → place (b .arena .records) (getD bs 0 0) ≡ true
+    go : (bs : List ℕ) → 1 ≤ length bs → All (λ c. (half : Bool) × (l : ℕ) × (r : ℕ) × (nodeAt (b .arena .records) c .kind ≡ join half l r)) bs →
+        (half : Bool) × (l : ℕ) × (r : ℕ) × (nodeAt (b .arena .records) (getD bs 0 0) .kind ≡ join half l r)
     go [] h j = absurd (omega arith)
-    go (c ∷ bs) h ((half, l, r, k), j) = join-place (b .arena .records) c half l r k
+    go (c ∷ bs) h (j, js) = j
+
+pub root-there : (b : Build) → Formed b → b .built ≢ 0 → place (b .arena .records) (root b) ≡ true
+root-there b f n = let (half, l, r, k) = root-join b f n in join-place (b .arena .records) (root b) half l r k
 
 -- encode's outputs leave a ready build well formed
 pub outputs-formed : (b : Build) (lo end : ℕ) → Ready b → encode-outputs b lo end .arena .fresh ≤ 1000000001 →

@@ -3,10 +3,9 @@ use mathlib.Core.Path.{_≡_, refl, sym, ap, _∙_, subst}
 use mathlib.Core.Logic.{_≢_}
 use mathlib.Core.Bool.{Bool, true, false, not, _&&_}
 use mathlib.Core.List.{List, [], _∷_, _++_, map, reverse}
-use Prim.Native.Nat.{ℕ, _+_, _≤_, _<_}
+use Prim.Native.Nat.{ℕ, _+_, _≤_}
 use native.Mathlib.Omega.{arith}
-use lib.Dec.{leb, ltb, eqb}
-use lib.ListN.{length}
+use lib.Dec.{leb, ltb}
 use borrow.Author.Tests.{eqb-true, ltb-false, leb-true}
 use Rattle.rules.specs.Lists.{in-turn}
 use Rattle.rules.specs.Records.{Node, Entry, Record, waiting, nodeAt}

@@ -1,20 +1,20 @@
 -- A clause written where the buffer's used words end. Assumes nothing.
-use mathlib.Core.Path.{_≡_, refl, sym, ap, ap₂, _∙_, subst}
+use mathlib.Core.Path.{_≡_, refl, sym, ap, ap₂, _∙_}
 use mathlib.Core.Bool.{Bool, true, false, cond}
 use mathlib.Core.List.{List, [], _∷_, _++_, append-assoc, append-nil}
-use Prim.Native.Nat.{ℕ, suc, _+_, _*_, _-_, _≤_, _<_}
+use Prim.Native.Nat.{ℕ, _+_, _-_, _≤_, _<_}
 use native.Mathlib.Omega.{arith}
-use lib.Dec.{eqb, ltb}
-use lib.ListN.{length, take, set, length-append}
+use lib.Dec.{eqb}
+use lib.ListN.{length, take, length-append}
 use lib.IntN.{ℤ, pos}
-use borrow.Author.Tests.{lt-ltb, eq-eqb, ne-eqb}
+use borrow.Author.Tests.{lt-ltb}
 use Rattle.rules.specs.Records.{word-literal}
 use Rattle.rules.specs.Totalizer.{Arena}
 use Rattle.rules.specs.Build.{clause-words}
 use Rattle.numbers.specs.Signed.{put-signed}
 use Rattle.records.specs.declared.Marks.{Marks}
 use Rattle.records.specs.Words.{side-of, Buf, buf, push, push-side, push-clause, more-of, full-of}
-use Rattle.records.specs.Carries.{St, st, storeOf, bufferOf, marksOf, laid, written, Fits, Holds, Carries, Steps, with-clause, clause-of}
+use Rattle.records.specs.Carries.{St, st, bufferOf, marksOf, laid, written, Steps, with-clause, clause-of}
 use Rattle.records.proofs.Lay.{laid-length, laid-sets, words-append}
 use Rattle.records.proofs.Grow.{clause-grows}
 use Rattle.records.proofs.Step.{stop, filled, done}

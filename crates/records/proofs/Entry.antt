@@ -1,26 +1,25 @@
 -- The two ends of a promise: what is lent is carried, and what is held is determined; a change in place begins a new entry;
 -- zeroing past the marks settles every word. Assumes nothing.
-use mathlib.Core.Path.{_≡_, refl, sym, ap, ap₂, _∙_, subst}
+use mathlib.Core.Path.{_≡_, refl, sym, ap, ap₂, _∙_}
 use mathlib.Core.Logic.{_⊎_, inl, inr}
-use mathlib.Core.Bool.{Bool, true, false}
+use mathlib.Core.Bool.{Bool, false}
 use mathlib.Core.List.{List, [], _∷_, _++_, append-assoc, append-nil}
-use Prim.Native.Nat.{ℕ, zero, suc, _+_, _*_, _-_, _/_, _≤_, _<_, max}
+use Prim.Native.Nat.{ℕ, zero, suc, _+_, _*_, _-_, _/_, _≤_, _<_}
 use native.Mathlib.Omega.{arith}
-use lib.Dec.{ltb}
-use lib.ListN.{length, getD, take, drop, set, length-append, length-drop, length-take, length-set, take-append-drop}
+use lib.ListN.{length, take, drop, set, length-append, length-set, take-append-drop}
 use lib.Seq.{length-take-le, take-append-le, take-take, take-append-seam, drop-append-add, drop-append-seam, drop-drop, drop-append-le, take-append-add}
 use lib.IntN.{ℤ, pos}
 use borrow.Author.Tests.{lt-ltb}
 use Rattle.rules.specs.Lists.{padded}
-use Rattle.rules.specs.Records.{Record, unknown, record-image, imageOf, recordOf, recordsOf}
+use Rattle.rules.specs.Records.{Record, record-image, imageOf, recordsOf}
 use Rattle.rules.specs.Totalizer.{Arena}
 use Rattle.rules.specs.Build.{clause-words}
-use Rattle.laws.specs.Words.{record-image-length, image-length, records-of-image}
+use Rattle.laws.specs.Words.{record-image-length, image-length}
 use Rattle.laws.specs.Whole.{records-length}
 use Rattle.records.specs.declared.Marks.{Marks}
 use Rattle.records.specs.Words.{put-record}
 use Rattle.records.specs.Carries.{St, st, storeOf, bufferOf, marksOf, laid, written, peak, Fits, Holds, Carries, Steps, Makes, Lent, read-arena}
-use Rattle.records.proofs.Lay.{laid-length, laid-again, laid-front, front-laid, image-append, image-more}
+use Rattle.records.proofs.Lay.{laid-length, laid-again, laid-front, front-laid, image-more}
 use Rattle.records.proofs.Grow.{fits-or}
 use Rattle.records.proofs.Step.{going}
 
@@ -85,7 +84,8 @@ abbrev pub Same-made : {X : Type 0} → St → St → St → X → X → (Arena 
 Same-made σ τ τ′ x x′ f =
     (e : St) (t : Arena) → Carries e σ t → (Fits e (f t .0) → (τ ≡ τ′) × (x ≡ x′)) × (marksOf τ .full ≡ marksOf τ′ .full)
 
-full-same : (e τ τ′ : St) (t : Arena) → Carries e τ t → Carries e τ′ t → marksOf τ .full ≡ marksOf τ′ .full
+-- two memories that carry the same agree on the full mark
+pub full-same : (e τ τ′ : St) (t : Arena) → Carries e τ t → Carries e τ′ t → marksOf τ .full ≡ marksOf τ′ .full
 full-same e τ τ′ t h k = go (fits-or e t)
   where
     go : Fits e t ⊎ (Fits e t → ⊥) → marksOf τ .full ≡ marksOf τ′ .full
@@ -230,9 +230,3 @@ held-zeroed e σ t f h =
       ap₂ (padded 0) a (ap (take (8 * marksOf σ .records)) (h .store-is) ∙ laid-front (imageOf (t .records)) (storeOf e) (8 * marksOf σ .records) i),
       ap₂ (padded (pos 0)) b (ap (take (marksOf σ .words)) (h .buffer-is) ∙ laid-front (written e t) (bufferOf e) (marksOf σ .words) (sym (h .words-is))),
     )
-
--- what is carried, zeroed from the entry's marks on, is what the entry used and zeros
-pub kept-zeroed : (e σ : St) (t : Arena) → Carries e σ t →
-    (padded 0 (length (storeOf σ)) (take (8 * marksOf e .records) (storeOf σ)) ≡ padded 0 (length (storeOf e)) (take (8 * marksOf e .records) (storeOf e))) ×
-    (padded (pos 0) (length (bufferOf σ)) (take (marksOf e .words) (bufferOf σ)) ≡ padded (pos 0) (length (bufferOf e)) (take (marksOf e .words) (bufferOf e)))
-kept-zeroed e σ t h = (ap₂ (padded 0) (h .same-store) (h .kept-store), ap₂ (padded (pos 0)) (h .same-buffer) (h .kept-buffer))

@@ -1,18 +1,18 @@
 -- What a rule needs grows: records, clause words, the next number, maxima and heights. Assumes nothing.
-use mathlib.Core.Path.{_≡_, refl, sym, ap, _∙_}
+use mathlib.Core.Path.{_≡_, refl, ap}
 use mathlib.Core.Bool.{Bool, true, false}
 use mathlib.Core.Logic.{_⊎_, inl, inr}
 use mathlib.Core.List.{List, [], _∷_, _++_}
-use Prim.Native.Nat.{ℕ, zero, suc, _+_, _*_, _≤_, _<_, max}
+use Prim.Native.Nat.{ℕ, suc, _+_, _*_, _≤_, max}
 use native.Mathlib.Omega.{arith}
-use lib.Dec.{leb, ltb}
+use lib.Dec.{leb}
 use lib.ListN.{length, take, length-append}
 use lib.IntN.{ℤ}
-use borrow.Author.Tests.{leb-true, leb-false, ltb-true, ltb-false}
+use borrow.Author.Tests.{leb-true, leb-false}
 use Rattle.rules.specs.Records.{Record}
 use Rattle.rules.specs.Totalizer.{Arena}
 use Rattle.rules.specs.Build.{clause-words}
-use Rattle.records.specs.Carries.{St, storeOf, bufferOf, marksOf, written, size, peak, Fits, with-records, with-record, with-clause}
+use Rattle.records.specs.Carries.{St, storeOf, bufferOf, marksOf, written, peak, Fits, with-records, with-record, with-clause}
 use Rattle.records.proofs.Lay.{words-append}
 
 -- u needs at least what t needs

@@ -1,16 +1,16 @@
 -- Lists laid over the front of others, and the image of records. Assumes nothing.
-use mathlib.Core.Path.{_≡_, refl, sym, ap, ap₂, _∙_, subst}
+use mathlib.Core.Path.{_≡_, refl, sym, ap, ap₂, _∙_}
 use mathlib.Core.List.{List, [], _∷_, _++_, append-assoc, append-nil}
 use Prim.Native.Nat.{ℕ, zero, suc, _+_, _*_, _-_, _≤_, _<_}
 use native.Mathlib.Omega.{arith}
 use native.Mathlib.Numerals.{add-one, add-two, add-three, add-four, add-five, add-six, add-seven}
-use lib.ListN.{length, getD, take, drop, set, length-append, length-drop, length-take, List·getD-append, take-append-drop, length-set}
-use lib.Seq.{sets, sets-eq, take-append-seam, take-append-le, drop-append-add, drop-drop, take-set-le, getD-append-add, length-take-le, take-take, set-append-left, drop-append-seam}
+use lib.ListN.{length, getD, take, drop, set, length-append, length-drop, List·getD-append, take-append-drop}
+use lib.Seq.{sets, sets-eq, take-append-seam, drop-append-add, drop-drop, take-set-le, getD-append-add, length-take-le, drop-append-seam}
 use lib.IntN.{ℤ, pos}
 use Rattle.rules.specs.Records.{Record, unknown, record-image, imageOf}
 use Rattle.rules.specs.Build.{clause-words}
-use Rattle.laws.specs.Words.{record-image-length, image-length}
-use Rattle.records.specs.Words.{put-word, put-record}
+use Rattle.laws.specs.Words.{record-image-length}
+use Rattle.records.specs.Words.{put-word}
 use Rattle.records.specs.Carries.{laid}
 
 pub laid-length : {A : Type 0} (xs s : List A) → length xs ≤ length s → length (laid xs s) ≡ length s

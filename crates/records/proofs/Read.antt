@@ -1,15 +1,15 @@
 -- What the fields of a record are, where the words store records. Assumes nothing.
 use mathlib.Core.Path.{_≡_, refl, sym, ap, ap₂, _∙_}
 use mathlib.Core.Bool.{Bool, true, false, cond, false≢true}
-use mathlib.Core.List.{List, [], _∷_, _++_}
-use Prim.Native.Nat.{ℕ, zero, suc, _+_, _*_, _/_, _≤_, _<_, min, max}
+use mathlib.Core.List.{List}
+use Prim.Native.Nat.{ℕ, _+_, _*_, _/_, _≤_, _<_, max}
 use native.Mathlib.Omega.{arith}
 use lib.Dec.{eqb, ltb}
-use lib.ListN.{length, getD, take, length-take, List·getD-eq-default, getD-replicate}
+use lib.ListN.{length, getD, length-take, List·getD-eq-default, getD-replicate}
 use lib.Seq.{getD-take}
 use borrow.Author.Tests.{ltb-true, ltb-false, lt-ltb, eqb-true, eqb-false, ne-eqb}
 use lib.IntN.{ℤ, pos}
-use Rattle.rules.specs.Records.{Kind, leaf, join, dummy, Output, Entry, literal-word, Record, node, output, waiting, unknown, node-image, record-image, imageOf, node-of, nodeAt, dummy-node, left-link, right-link, waits}
+use Rattle.rules.specs.Records.{Kind, leaf, join, dummy, Output, Entry, literal-word, Record, node, output, waiting, unknown, node-image, record-image, node-of, nodeAt, dummy-node, left-link, right-link, waits}
 use Rattle.laws.specs.Words.{image-length}
 use Rattle.records.specs.declared.Fields.{Fields}
 use Rattle.records.specs.Words.{field-at, fields}

@@ -1,12 +1,12 @@
 -- What fits, by the room that refusal 7 speaks of; and records read from 32-bit words have maxima and heights that fit a word.
 -- Assumes nothing.
-use mathlib.Core.Path.{_≡_, refl, sym, ap, _∙_, subst}
+use mathlib.Core.Path.{_≡_, refl, sym, ap, subst}
 use mathlib.Core.Bool.{Bool, true, false, cond}
 use mathlib.Core.List.{List, [], _∷_}
-use Prim.Native.Nat.{ℕ, zero, suc, _+_, _*_, _/_, _<_, _≤_, min, max}
+use Prim.Native.Nat.{ℕ, zero, suc, _+_, _<_, _≤_}
 use native.Mathlib.Omega.{arith}
 use lib.ListN.{length, getD, take, drop}
-use lib.Seq.{getD-take, getD-drop}
+use lib.Seq.{getD-drop}
 use Rattle.rules.specs.Lists.{same}
 use Rattle.rules.specs.Numbers.{capacity}
 use Rattle.rules.specs.Totalizer.{Arena}

@@ -1,20 +1,20 @@
 -- Steps of a rule over lent memory, composed. Assumes nothing.
-use mathlib.Core.Path.{_≡_, refl, sym, ap, ap₂, _∙_, subst}
+use mathlib.Core.Path.{_≡_, refl, sym, ap, _∙_, subst}
 use mathlib.Core.Logic.{_⊎_, inl, inr}
-use mathlib.Core.Bool.{Bool, true, false, true≢false}
-use mathlib.Core.List.{List, [], _∷_, _++_}
-use Prim.Native.Nat.{ℕ, _+_, _*_, _≤_, _<_}
+use mathlib.Core.Bool.{true, false, true≢false}
+use mathlib.Core.List.{List, _++_}
+use Prim.Native.Nat.{ℕ, _+_, _*_, _≤_}
 use native.Mathlib.Omega.{arith}
 use lib.ListN.{length, take, drop, length-append}
 use lib.Seq.{take-append-le, take-take, length-take-le}
 use lib.IntN.{ℤ}
-use Rattle.rules.specs.Records.{Record, imageOf}
+use Rattle.rules.specs.Records.{imageOf}
 use Rattle.rules.specs.Totalizer.{Arena}
 use Rattle.rules.specs.Build.{clause-words}
 use Rattle.laws.specs.Words.{image-length}
 use Rattle.records.specs.declared.Marks.{Marks}
 use Rattle.records.specs.Words.{full-of}
-use Rattle.records.specs.Carries.{St, st, storeOf, bufferOf, marksOf, laid, written, Fits, Holds, Carries, Steps, Makes, Stores, on-records, with-records}
+use Rattle.records.specs.Carries.{St, st, storeOf, bufferOf, marksOf, laid, written, Fits, Holds, Carries, Steps, Makes, Stores}
 use Rattle.records.proofs.Lay.{laid-length, laid-front}
 use Rattle.records.proofs.Grow.{Grows, fits-less, fits-or}
 

@@ -1,7 +1,7 @@
 -- Word-level steps of the leaves; what they mean for records stands in proofs/Read. Assumes nothing.
-use mathlib.Core.Bool.{Bool, true, false, cond}
+use mathlib.Core.Bool.{true, cond}
 use mathlib.Core.List.{List, [], _∷_, _++_}
-use Prim.Native.Nat.{ℕ, suc, _+_, _*_, _/_}
+use Prim.Native.Nat.{ℕ, _+_, _*_, _/_}
 use lib.Dec.{eqb, ltb}
 use lib.ListN.{length, getD, set, take, drop}
 use lib.IntN.{ℤ}

@@ -4,7 +4,7 @@ ghost use mathlib.Core.Path.{_≡_};
 ghost use mathlib.Core.List.{List};
 ghost use Prim.Native.Nat.{ℕ, _+_, _*_, _<_};
 ghost use lib.ListN.{length, take};
-ghost use lib.IntN.{ℤ, pos};
+ghost use lib.IntN.{pos};
 ghost use Rattle.rules.specs.Lists.{padded};
 ghost use Rattle.rules.specs.Records.{Record, nodeAt, left-link, right-link};
 ghost use Rattle.records.specs.Words.{word-at, put-word, field-at, fields, put-record, side-of, buf, push, push-side, push-clause, more-of, full-of};

@@ -4,17 +4,17 @@ use mathlib.Core.Bool.{Bool, true, false, cond, true≢false}
 use mathlib.Core.List.{List, [], _∷_, _++_}
 use Prim.Native.Nat.{ℕ, suc, _+_, _*_, _/_, _≤_, _<_, max}
 use native.Mathlib.Omega.{arith}
-use lib.ListN.{length, getD, take, length-append}
-use lib.IntN.{ℤ, pos}
-use Rattle.rules.specs.Records.{Kind, leaf, join, dummy, Node, Output, Entry, Record, node, output, waiting, node-of, nodeAt, node-image, record-image, imageOf, literal-word, leaf-node, dummy-node}
+use lib.ListN.{length, take, length-append}
+use lib.IntN.{ℤ}
+use Rattle.rules.specs.Records.{join, Node, Record, node, output, waiting, node-of, node-image, record-image, literal-word, leaf-node, dummy-node}
 use Rattle.rules.specs.Totalizer.{Arena, counts, joining, add, take-number}
 use Rattle.records.specs.declared.Marks.{Marks}
 use Rattle.records.specs.declared.Fields.{Fields}
 use Rattle.records.specs.Words.{field-at, fields, put-record, full-of}
-use Rattle.records.specs.Carries.{St, st, storeOf, bufferOf, marksOf, laid, written, size, peak, Fits, Holds, Carries, Steps, Makes, Stores, on-records, with-records, with-record, placed}
+use Rattle.records.specs.Carries.{St, st, storeOf, marksOf, written, size, peak, Fits, Holds, Carries, Steps, Makes, Stores, on-records, with-records, with-record, placed}
 use Rattle.records.proofs.Grow.{Grows, grows-trans, peak-append, records-more, record-grows}
 use Rattle.records.proofs.Read.{size-words, maximum-is, height-is}
-use Rattle.records.proofs.Step.{steps-then, steps-same, stop, going, filled, done, carried, held-stores, makes-steps, makes-same, makes-full}
+use Rattle.records.proofs.Step.{stop, going, filled, done, carried, held-stores, makes-steps, makes-same, makes-full}
 use Rattle.records.proofs.Entry.{appended, kept-below}
 use Rattle.records_append.specs.Fresh.{with-numbers}
 

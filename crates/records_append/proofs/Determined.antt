@@ -7,7 +7,7 @@ use borrow.Fn.Kinds.{Dens, resT, endedOf}
 use denote.Triple.Clauses.{AtExit}
 use contract.Lifetimes.{Lfts}
 use lib.IntN.{ℤ}
-use Rattle.rules.specs.Records.{Record, Entry, waiting, record-image, literal-word, leaf-node, dummy-node}
+use Rattle.rules.specs.Records.{Record, waiting, record-image, literal-word, leaf-node, dummy-node}
 use Rattle.rules.specs.Totalizer.{joining, add, take-number}
 use Rattle.numbers.proofs.Determined.{One-result}
 use Rattle.records.specs.Words.{fields}
@@ -22,6 +22,10 @@ use Rattle.records_append.proofs.dummy.Kinds as dummy-kinds
 use Rattle.records_append.proofs.dummy.Reads as dummy
 use Rattle.records_append.proofs.counted.Kinds as counted-kinds
 use Rattle.records_append.proofs.counted.Reads as counted
+use Rattle.records_append.proofs.above.Kinds as above-kinds
+use Rattle.records_append.proofs.above.Reads as above
+use Rattle.records_append.proofs.sum.Kinds as sum-kinds
+use Rattle.records_append.proofs.sum.Reads as sum
 use Rattle.records_append.proofs.join.Kinds as join-kinds
 use Rattle.records_append.proofs.join.Reads as join
 use Rattle.records_append.proofs.numbers.Kinds as numbers-kinds
@@ -48,6 +52,12 @@ dummy-determined κs a x y e f p q c = makes-determined _ _ _ _ _ _ (p c) (q c)
 
 pub counted-determined : One-result 0 counted-kinds.ps counted-kinds.r counted.Post
 counted-determined κs a x y e f p q = p ∙ sym q
+
+pub above-determined : One-result 0 above-kinds.ps above-kinds.r above.Post
+above-determined κs a x y e f p q = p ∙ sym q
+
+pub sum-determined : One-result 0 sum-kinds.ps sum-kinds.r sum.Post
+sum-determined κs a x y e f p q = p ∙ sym q
 
 pub join-determined : (κs : Lfts 1) (a : Dens κs join-kinds.ps) (x y : resT join-kinds.r κs .Denot) (e f : AtExit (endedOf 1 join-kinds.ps join-kinds.r) κs) →
     join.Post κs a x e → join.Post κs a y f → (c : List ℤ) →

@@ -4,7 +4,7 @@ ghost use mathlib.Core.Bool.{cond, false};
 ghost use mathlib.Core.List.{List};
 ghost use Prim.Native.Nat.{ℕ, suc, _+_, _≤_, max};
 ghost use lib.IntN.{ℤ};
-ghost use Rattle.rules.specs.Records.{Record, Entry, waiting, record-image, literal-word, leaf-node, dummy-node};
+ghost use Rattle.rules.specs.Records.{Record, waiting, record-image, literal-word, leaf-node, dummy-node};
 ghost use Rattle.rules.specs.Totalizer.{counts, joining, add, take-number};
 ghost use Rattle.records.specs.Words.{fields};
 ghost use Rattle.records.specs.Carries.{st, Steps, Makes, on-records, with-record, placed};
@@ -106,7 +106,8 @@ fn bit(half: bool) -> u32
     0
 }
 
-fn above(x: u32, y: u32) -> u64
+// One more than the larger. Constant time.
+pub fn above(x: u32, y: u32) -> u64
     ensures { λ r. ⌜ r ≡ suc (max x y) ⌝ }
 {
     if x < y {
@@ -115,7 +116,8 @@ fn above(x: u32, y: u32) -> u64
     (x as u64) + 1
 }
 
-fn sum(x: u32, y: u32) -> u64
+// The sum, in a width that holds it. Constant time.
+pub fn sum(x: u32, y: u32) -> u64
     ensures { λ r. ⌜ r ≡ x + y ⌝ }
 {
     (x as u64) + (y as u64)

@@ -1,20 +1,19 @@
 -- An output asks its connections, a connection asks its node: one law for each way. Assumes nothing.
-use mathlib.Core.Path.{_≡_, refl, sym, ap, ap₂, _∙_, subst}
-use mathlib.Core.Bool.{Bool, true, false, cond, false≢true}
-use mathlib.Core.List.{List, [], _∷_, _++_}
-use Prim.Native.Nat.{ℕ, zero, suc, _+_, _*_, _/_, _-_, _≤_, _<_, min}
+use mathlib.Core.Path.{_≡_, refl, sym, ap, ap₂, _∙_}
+use mathlib.Core.Bool.{Bool, true, false, false≢true}
+use mathlib.Core.List.{List}
+use Prim.Native.Nat.{ℕ, zero, suc, _+_, _-_, _≤_, _<_, min}
 use native.Mathlib.Omega.{arith}
 use lib.Dec.{ltb}
 use lib.IntN.{ℤ, pos}
 use Rattle.rules.specs.Lists.{in-turn, keep, rising}
-use Rattle.rules.specs.Records.{Kind, leaf, join, dummy, Output, Record, nodeAt, left-link, right-link, literal-word, word-literal}
-use Rattle.rules.specs.Totalizer.{Arena, counts, asks, number-of, pairs-from, pairs, side, clause, write, take-number, Define, ask, ask-pair, define-join, define-kind, define, define-output}
+use Rattle.rules.specs.Records.{Kind, leaf, join, dummy, Output, Record, nodeAt, left-link, right-link, literal-word}
+use Rattle.rules.specs.Totalizer.{Arena, counts, asks, number-of, pairs-from, pairs, write, take-number, Define, ask, ask-pair, define-join, define-kind, define, define-output}
 use Rattle.rules.specs.Refinement.{further-pairs, extend}
 use Rattle.records.specs.declared.Marks.{Marks}
-use Rattle.records.specs.Words.{side-of, full-of}
-use Rattle.records.specs.Carries.{St, st, storeOf, marksOf, Fits, Holds, Carries, Steps, Stores, with-clause, clause-of, is-join, is-halved}
+use Rattle.records.specs.Carries.{St, st, marksOf, Steps, Stores, is-join, is-halved}
 use Rattle.records.proofs.Read.{join-parts}
-use Rattle.records.proofs.Step.{steps-none, steps-then, steps-same, stop, going, filled, held, Rest, rest-turn}
+use Rattle.records.proofs.Step.{steps-none, steps-then, steps-same, stop, held, Rest, rest-turn}
 use Rattle.totalizer_write.specs.Spread.{Spread}
 use Rattle.totalizer.proofs.Growth.{define-grows, output-grows, extend-grows}
 use Rattle.totalizer_write.proofs.Pairs.{span-fewer, spread-pairs}

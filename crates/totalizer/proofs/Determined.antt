@@ -1,6 +1,6 @@
 -- Any two results that the promise of a public function allows are equal, wherever the arena that it leads to fits; they agree on the
 -- full mark everywhere. Assumes nothing.
-use mathlib.Core.Path.{_≡_, sym, _∙_}
+use mathlib.Core.Path.{_≡_}
 use Prim.Native.Nat.{_+_, _≤_}
 use lib.IntN.{pos}
 use borrow.Fn.Kinds.{Dens, resT, endedOf}

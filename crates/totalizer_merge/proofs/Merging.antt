@@ -1,16 +1,15 @@
 -- A merge is its two halves and their join, whatever the fuel. Assumes nothing.
-use mathlib.Core.Path.{_≡_, refl, sym, ap, ap₂, _∙_, subst}
-use mathlib.Core.Bool.{Bool, true, false}
-use mathlib.Core.List.{List, [], _∷_, _++_}
-use Prim.Native.Nat.{ℕ, zero, suc, _+_, _*_, _-_, _/_, _≤_, _<_}
+use mathlib.Core.Path.{_≡_, refl, sym, ap, _∙_, subst}
+use mathlib.Core.Bool.{false}
+use mathlib.Core.List.{List, [], _∷_}
+use Prim.Native.Nat.{ℕ, zero, suc, _-_, _/_}
 use native.Mathlib.Omega.{arith}
 use lib.ListN.{length, getD, take, drop, length-drop}
 use lib.Seq.{length-take-le, take-all}
-use lib.IntN.{ℤ}
 use Rattle.rules.specs.Records.{Record}
 use Rattle.rules.specs.Totalizer.{Arena, joining, add, merge-by, merge}
 use Rattle.laws.specs.Merges.{merge-fuel}
-use Rattle.records.specs.Carries.{St, st, Makes, on-records, with-records}
+use Rattle.records.specs.Carries.{St, Makes, on-records, with-records}
 use Rattle.records.proofs.Grow.{Grows, grows-self, grows-trans}
 use Rattle.records.proofs.Step.{makes-none, makes-same, makes-then}
 use Rattle.records_append.proofs.Appending.{join-grows}

@@ -15,16 +15,16 @@ use Rattle.rules.specs.declared.Encoded.{Encoded}
 use Rattle.rules.specs.Lists.{padded}
 use Rattle.rules.specs.Numbers.{capacity}
 use Rattle.rules.specs.Records.{imageOf, Record, Entry, waiting, waits}
-use Rattle.rules.specs.Build.{Build, records, clause-words, clause-total, clause-mark, stateOf, buildOf, build-over, buckets-of, unbuilt, with-arena, restructured}
+use Rattle.rules.specs.Build.{Build, records, clause-words, clause-total, clause-mark, stateOf, buildOf, build-over, buckets-of, with-arena, restructured}
 use Rattle.rules.specs.Buckets.{build-structure}
-use Rattle.rules.specs.Refinement.{due, patched, merge-structures}
+use Rattle.rules.specs.Refinement.{patched, merge-structures}
 use Rattle.rules.specs.Encode.{EncodeEnd, prepared, encode-outputs, nothing-asked, encode, nothing-done, divisor-above, no-room, encoded, untouched, no-room-end, encoded-end, encode-ub-change}
 use Rattle.laws.specs.Facts.{All, All-map}
 use Rattle.laws.specs.Formed.{WellFormed}
 use Rattle.laws.specs.Whole.{well-formed-facts}
 use Rattle.preserve.specs.Given.{buckets-inside}
 use Rattle.preserve.specs.Refinements.{merged-fresh}
-use Rattle.preserve.specs.Encodes.{encode-fresh}
+use Rattle.preserve.specs.Encodes.{encode-fresh, prepared-cases}
 use Rattle.preserve.specs.Sounds.{encode-sound}
 use Rattle.records.specs.Carries.{St, st, written, Fits, Holds, Stores, with-records}
 use Rattle.records.proofs.Grow.{fits-or}
@@ -37,7 +37,6 @@ use Rattle.watchdog_undo.specs.Aside.{Aside, But}
 use Rattle.watchdog_save.proofs.Copying.{front-same}
 use Rattle.watchdog_reach.specs.Starts.{Starts}
 use Rattle.watchdog_reach.specs.Reached.{whole, Has, Reached}
-use Rattle.watchdog_reach.proofs.Ways.{first-way, refined-way, same-way}
 use Rattle.watchdog_encode.specs.Busy.{Busy, stated}
 use Rattle.watchdog_encode.proofs.Room.{no-room-full, room-fit, end-words}
 use Rattle.watchdog_encode.proofs.Ends.{refused-7, accepted-done, accepted-idle, self-room}
@@ -50,12 +49,7 @@ all-zero ws xs e = let z : length ws - 0 ≡ length ws = omega arith in e ∙ ap
 
 -- what the three ways keep
 prepared-kin : (b : Build) → Kin b (prepared b)
-prepared-kin b = go (unbuilt b) refl (due b) refl
-  where
-    go : (t : Bool) → unbuilt b ≡ t → (u : Bool) → due b ≡ u → Kin b (prepared b)
-    go true e u d = subst (Kin b) (sym (first-way b e)) (first-kin b)
-    go false e true d = subst (Kin b) (sym (refined-way b e d)) (refined-kin b)
-    go false e false d = subst (Kin b) (sym (same-way b e d)) (self-kin b)
+prepared-kin b = prepared-cases (Kin b) b (λ _. first-kin b) (λ _ _. refined-kin b) (λ _ _. self-kin b)
 
 first-fresh : (b : Build) → b .arena .fresh ≤ build-structure b .arena .fresh
 unfolding build-structure restructured
@@ -66,12 +60,8 @@ unfolding merge-structures with-arena patched restructured
 refined-fresh b = omega (arith, merged-fresh (b .arena .records) (reverse (b .buckets)) (patched b .arena))
 
 prepared-fresh : (b : Build) → b .arena .fresh ≤ prepared b .arena .fresh
-prepared-fresh b = go (unbuilt b) refl (due b) refl
-  where
-    go : (t : Bool) → unbuilt b ≡ t → (u : Bool) → due b ≡ u → b .arena .fresh ≤ prepared b .arena .fresh
-    go true e u d = subst (λ (p : Build). b .arena .fresh ≤ p .arena .fresh) (sym (first-way b e)) (first-fresh b)
-    go false e true d = subst (λ (p : Build). b .arena .fresh ≤ p .arena .fresh) (sym (refined-way b e d)) (refined-fresh b)
-    go false e false d = subst (λ (p : Build). b .arena .fresh ≤ p .arena .fresh) (sym (same-way b e d)) (omega arith)
+prepared-fresh b =
+    prepared-cases (λ (p : Build). b .arena .fresh ≤ p .arena .fresh) b (λ _. first-fresh b) (λ _ _. refined-fresh b) (λ _ _. omega arith)
 
 -- an end by its parts
 end-is : (r r′ : Encoded) (x x′ : List ℕ) (y y′ : List ℤ) (v v′ : List ℕ) → r ≡ r′ → x ≡ x′ → y ≡ y′ → v ≡ v′ →

@@ -7,7 +7,7 @@ use native.Mathlib.Omega.{arith}
 use lib.Dec.{eqb}
 use borrow.Author.Tests.{eqb-true, eqb-false}
 use Rattle.rules.specs.Lists.{all, in-turn}
-use Rattle.rules.specs.Records.{Kind, leaf, join, dummy, nodeAt}
+use Rattle.rules.specs.Records.{Kind, join, nodeAt}
 use Rattle.rules.specs.Totalizer.{Arena, Define, counts, pairs, number-of, write, take-number, ask-pair, define-join, define-kind, define, define-output}
 use Rattle.records.proofs.Grow.{Grows}
 use Rattle.totalizer.proofs.Defining.{found-kind}

@@ -6,22 +6,22 @@ use mathlib.Core.List.{List, [], _∷_, _++_, map, append-nil}
 use Prim.Native.Nat.{ℕ, _+_, _-_, _≤_, _<_}
 use native.Mathlib.Omega.{arith}
 use lib.Dec.{eqb, leb, ltb}
-use lib.ListN.{length, getD}
+use lib.ListN.{getD}
 use lib.IntN.{ℤ}
 use borrow.Author.Tests.{eqb-true, eqb-false, eq-eqb, ne-eqb, leb-true, leb-false, le-leb, lt-leb, ltb-false, le-ltb, lt-ltb}
 use Rattle.rules.specs.declared.State.{State}
 use Rattle.rules.specs.Lists.{all, in-turn, rising}
-use Rattle.rules.specs.Records.{join, Node, Output, Record, waiting, nodeAt, outputs}
+use Rattle.rules.specs.Records.{Node, Output, Record, waiting, nodeAt, outputs}
 use Rattle.rules.specs.Totalizer.{Arena, number-in, number-of, define-output}
 use Rattle.rules.specs.Build.{Build, buildOf, build-over, unbuilt, largest, root, root-node, output-weight, with-arena, restructured}
 use Rattle.rules.specs.Buckets.{build-structure}
 use Rattle.rules.specs.Refinement.{due, patched, merge-structures}
 use Rattle.rules.specs.Encode.{prepared, root-values, encode-outputs, nothing-asked, encode, nothing-done, divisor-above, no-room}
-use Rattle.laws.specs.Facts.{All, neither}
+use Rattle.laws.specs.Facts.{neither}
 use Rattle.laws.specs.Places.{nodes-same, waiting-none, outputs-append, outputs-of-waiting}
-use Rattle.laws.specs.Climbs.{linked-joins}
 use Rattle.laws.specs.Formed.{WellFormed}
 use Rattle.preserve.specs.Given.{set-positive, waiting-below}
+use Rattle.preserve.specs.Encodes.{root-join}
 use Rattle.records.specs.Carries.{Stores}
 use Rattle.watchdog_entry.proofs.Begin.{stored}
 use Rattle.watchdog_outputs.specs.Values.{values, all-defined}
@@ -130,18 +130,8 @@ module _ (s : State) (store : List ℕ) (clauses : List ℤ) (w : WellFormed s s
         defined-is n [] = refl
         defined-is n (v ∷ vs) = ap₂ (λ (x : ℕ) (y : Bool). not (eqb x 0) && y) (number-is n v) (defined-is n vs)
 
-        -- the root is a join
-        root-join : (half : Bool) × (l : ℕ) × (r : ℕ) × (nodeAt (b .arena .records) (root b) .kind ≡ join half l r)
-        unfolding root buildOf build-over
-        root-join = go (b .buckets) (w .formed .if-built built .some) (linked-joins (nodeAt (b .arena .records)) _ (b .buckets) (w .formed .if-built built .linked))
-          where
-            go : (bs : List ℕ) → 1 ≤ length bs → All (λ c. (half : Bool) × (l : ℕ) × (r : ℕ) × (nodeAt (b .arena .records) c .kind ≡ join half l r)) bs →
-                (half : Bool) × (l : ℕ) × (r : ℕ) × (nodeAt (b .arena .records) (getD bs 0 0) .kind ≡ join half l r)
-            go [] h j = absurd (omega arith)
-            go (c ∷ bs) h (j, js) = j
-
         fresh-is : (r : Bool) → all-defined (b .arena .records) (root b) (root-values b lo end) ≡ r → r ≡ nothing-done b (encode b lo end)
-        unfolding nothing-done encode-outputs with-arena restructured
+        unfolding nothing-done encode-outputs with-arena restructured buildOf
         fresh-is r e =
             go r e ∙ ap (λ (c : Build). eqb (b .built) (c .built) && eqb (b .arena .fresh) (c .arena .fresh)) (sym way)
           where
@@ -156,7 +146,7 @@ module _ (s : State) (store : List ℕ) (clauses : List ℤ) (w : WellFormed s s
                 sym (ap₂ (λ (x y : Bool). x && y) same
                 (eq-eqb (b .arena .fresh) (end-arena .fresh) (ap (λ (t : Arena). t .fresh) (sym (all-idle (b .arena) (root b) (root-values b lo end) e)))))
             go false e =
-                let (half, l, r, k) = root-join in
+                let (half, l, r, k) = root-join b (w .formed) built in
                 let up : 1 ≤ nodeAt (b .arena .records) (root b) .height = omega (arith, w .formed .sound (root b) .height-is half l r k) in
                 let more : b .arena .fresh < end-arena .fresh = some-taken (b .arena) (root b) half l r k up (root-values b lo end) e in
                 sym (ap₂ (λ (x y : Bool). x && y) same (ne-eqb (b .arena .fresh) (end-arena .fresh) (λ q. omega arith)))

@@ -2,7 +2,7 @@
 use mathlib.Core.Path.{_≡_, refl, sym, ap, ap₂, _∙_}
 use mathlib.Core.Bool.{Bool, true, false, not, cond, _&&_, _||_}
 use mathlib.Core.List.{List, [], _∷_, map}
-use Prim.Native.Nat.{ℕ, zero, suc, _+_, _*_, _/_, _≤_, _<_, min}
+use Prim.Native.Nat.{ℕ, _*_, _/_, _≤_, _<_, min}
 use native.Mathlib.Omega.{arith}
 use borrow.Author.Tests.{eq-eqb, ne-eqb, lt-ltb, le-ltb, le-leb, lt-leb, eqb-true, ltb-true, ltb-false}
 use lib.Dec.{eqb, ltb, leb}
@@ -11,7 +11,7 @@ use lib.IntN.{ℤ, natAbs}
 use Rattle.rules.specs.Lists.{all, distinct}
 use Rattle.rules.specs.Numbers.{lawful, lawful-weight, capacity}
 use Rattle.rules.specs.Records.{literal-word, word-literal}
-use Rattle.rules.specs.Refusals.{Test, first-of, lists-differ, literal-unlawful, literal-twice, weight-unlawful, fresh-unlawful}
+use Rattle.rules.specs.Refusals.{first-of, lists-differ, literal-unlawful, literal-twice, weight-unlawful, fresh-unlawful}
 use Rattle.rules.specs.Start.{start-no-room, start-refusal}
 use Rattle.laws.specs.Facts.{not-not, neither}
 use Rattle.laws.specs.Words.{both, literal-word-literal}

@@ -8,7 +8,7 @@ ghost use lib.ListN.{length, drop};
 ghost use Rattle.rules.specs.Lists.{all, among, distinct};
 ghost use Rattle.rules.specs.Numbers.{lawful};
 ghost use Rattle.rules.specs.Records.{word-literal};
-ghost use Rattle.rules.specs.Refusals.{lists-differ, literal-unlawful, literal-twice, weight-unlawful, fresh-unlawful};
+ghost use Rattle.rules.specs.Refusals.{lists-differ, literal-unlawful, weight-unlawful, fresh-unlawful};
 ghost use Rattle.rules.specs.Start.{start-no-room, start-refusal};
 ghost use Rattle.watchdog_lists.specs.Literals.{words};
 

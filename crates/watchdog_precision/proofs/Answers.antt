@@ -1,5 +1,5 @@
 -- The answers of the reading calls, with the test of well formed in front. Assumes nothing.
-use mathlib.Core.Path.{_≡_, refl, sym, ap, _∙_}
+use mathlib.Core.Path.{_≡_, sym, ap, _∙_}
 use mathlib.Core.Bool.{Bool, true, false, not, cond, _&&_}
 use mathlib.Core.List.{List, [], _∷_}
 use Prim.Native.Nat.{ℕ, _^_}
@@ -8,17 +8,14 @@ use lib.IntN.{ℤ}
 use lib.ListN.{length}
 use Rattle.rules.specs.declared.State.{State}
 use Rattle.rules.specs.declared.Set.{Set}
-use Rattle.rules.specs.declared.Precision.{Precision}
 use Rattle.rules.specs.declared.Precision.the-variants.{Divisor, Refused as Refused-precision}
-use Rattle.rules.specs.declared.Maximum.{Maximum}
 use Rattle.rules.specs.declared.Maximum.the-variants.{Yes, No, Refused as Refused-maximum}
-use Rattle.rules.specs.declared.Coarse.{Coarse}
 use Rattle.rules.specs.declared.Coarse.the-variants.{Bound, Refused as Refused-coarse}
 use Rattle.rules.specs.Numbers.{divisor-of}
 use Rattle.rules.specs.Digits.{top-bit}
 use Rattle.rules.specs.Records.{entries}
 use Rattle.rules.specs.Refusals.{first-of, divisor-unlawful}
-use Rattle.rules.specs.Build.{Build, held, buildOf, build-over, unbuilt, largest, some-wait, output-weight, tares-of}
+use Rattle.rules.specs.Build.{held, buildOf, build-over, unbuilt, largest, some-wait, output-weight, tares-of}
 use Rattle.rules.specs.WellFormed.{well-formed, not-well-formed}
 use Rattle.rules.specs.Precision.{set-end, set-refusal, divisor-coarser, set-precision, next-precision, is-max-precision}
 use Rattle.rules.specs.Coarse.{coarse-at, coarse, coarse-ub}

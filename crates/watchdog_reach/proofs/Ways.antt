@@ -30,19 +30,20 @@ use Rattle.watchdog_ask.proofs.Whole.{readable}
 use Rattle.watchdog_reach.specs.Reached.{Structured, Reached}
 use Rattle.watchdog_reach.proofs.Standing.{entered}
 
-pub first-way : (b : Build) → unbuilt b ≡ true → prepared b ≡ build-structure b
+-- what an encode prepares, by whether nothing stands yet and whether a refinement is due
+way : (b : Build) (t u : Bool) → unbuilt b ≡ t → due b ≡ u →
+    prepared b ≡ elim t [ true ↦ build-structure b | false ↦ elim u [ true ↦ merge-structures b | false ↦ b ] ]
 unfolding prepared
-first-way b e = ap (λ (t : Bool). elim t [ true ↦ build-structure b | false ↦ elim (due b) [ true ↦ merge-structures b | false ↦ b ] ]) e
+way b t u e d = ap₂ (λ (x y : Bool). elim x [ true ↦ build-structure b | false ↦ elim y [ true ↦ merge-structures b | false ↦ b ] ]) e d
+
+pub first-way : (b : Build) → unbuilt b ≡ true → prepared b ≡ build-structure b
+first-way b e = way b true (due b) e refl
 
 pub refined-way : (b : Build) → unbuilt b ≡ false → due b ≡ true → prepared b ≡ merge-structures b
-unfolding prepared
-refined-way b e d =
-    ap₂ (λ (t u : Bool). elim t [ true ↦ build-structure b | false ↦ elim u [ true ↦ merge-structures b | false ↦ b ] ]) e d
+refined-way b e d = way b false true e d
 
 pub same-way : (b : Build) → unbuilt b ≡ false → due b ≡ false → prepared b ≡ b
-unfolding prepared
-same-way b e d =
-    ap₂ (λ (t u : Bool). elim t [ true ↦ build-structure b | false ↦ elim u [ true ↦ merge-structures b | false ↦ b ] ]) e d
+same-way b e d = way b false false e d
 
 -- nothing due where no weight reaches the divisor; a build that is not refused then stands
 pub stands : (b : Build) → divisor-above b ≡ false → largest (b .queue) < b .set → prepared b ≡ b

@@ -1,7 +1,7 @@
 // Old buckets brought up to date in place: each linked, halved, to the one below, its maximum and height by rule.
 ghost use mathlib.Core.Path.{_≡_};
 ghost use mathlib.Core.List.{List, map};
-ghost use Prim.Native.Nat.{suc, _+_, _-_, _≤_, max};
+ghost use Prim.Native.Nat.{_-_, _≤_};
 ghost use lib.ListN.{length, take, drop, replicate};
 ghost use Rattle.rules.specs.Records.{Record};
 ghost use Rattle.rules.specs.Refinement.{former-half};
@@ -53,21 +53,6 @@ fn put_bucket(s: &mut [u32], n: usize, b: Bucket)
     );
 }
 
-fn sum(x: u32, y: u32) -> u64
-    ensures { λ r. ⌜ r ≡ x + y ⌝ }
-{
-    (x as u64) + (y as u64)
-}
-
-fn above(x: u32, y: u32) -> u64
-    ensures { λ r. ⌜ r ≡ suc (max x y) ⌝ }
-{
-    if x < y {
-        return (y as u64) + 1;
-    }
-    (x as u64) + 1
-}
-
 // Bucket b linked, halved, to the one below; false, and nothing written, where its maximum or height does not fit a word.
 // Constant time.
 fn link(s: &mut [u32], records: usize, b: u32, below: u32) -> bool
@@ -75,8 +60,8 @@ fn link(s: &mut [u32], records: usize, b: u32, below: u32) -> bool
 {
     let l = records::left(s, records, b);
     let half = records_append::counted(true, records::maximum(s, records, below));
-    let maximum = sum(records::maximum(s, records, l), half);
-    let height = above(
+    let maximum = records_append::sum(records::maximum(s, records, l), half);
+    let height = records_append::above(
         records::height(s, records, l),
         records::height(s, records, below),
     );

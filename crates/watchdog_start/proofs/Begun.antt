@@ -1,8 +1,8 @@
 -- An accepted start holds exactly the new build; a refused one holds what it was lent. Assumes nothing.
 use mathlib.Core.Path.{_≡_, refl, sym, ap, ap₂, _∙_, subst}
-use mathlib.Core.Bool.{Bool, true, false}
-use mathlib.Core.List.{List, [], _∷_, _++_, append-assoc}
-use Prim.Native.Nat.{ℕ, zero, suc, _+_, _*_, _-_, _≤_, _<_, max}
+use mathlib.Core.Bool.{true}
+use mathlib.Core.List.{List, [], _++_}
+use Prim.Native.Nat.{ℕ, zero, suc, _+_, _*_, _-_, _≤_, max}
 use native.Mathlib.Omega.{arith}
 use borrow.Author.Tests.{le-leb}
 use lib.ListN.{length, take, replicate, length-append}
@@ -11,11 +11,11 @@ use Rattle.rules.specs.declared.State.{State}
 use Rattle.rules.specs.declared.Answer.the-variants.{Accepted, Refused}
 use Rattle.rules.specs.Lists.{all, total, padded}
 use Rattle.rules.specs.Numbers.{lawful, lawful-weight, capacity}
-use Rattle.rules.specs.Records.{Record, imageOf, recordsOf}
+use Rattle.rules.specs.Records.{imageOf, recordsOf}
 use Rattle.rules.specs.Totalizer.{Arena}
 use Rattle.rules.specs.Refusals.{answer-of}
-use Rattle.rules.specs.Build.{Build, records, stateOf, clause-words, clause-mark, clause-total, variable-total}
-use Rattle.rules.specs.Start.{StartEnd, new-build, zero-state, start-refusal, start-end, start}
+use Rattle.rules.specs.Build.{records, stateOf, clause-words, clause-mark, clause-total, variable-total}
+use Rattle.rules.specs.Start.{new-build, zero-state, start-refusal, start-end, start}
 use Rattle.laws.specs.Facts.{and-true, facts-all}
 use Rattle.preserve.specs.Starts.{Lent as Lent-lists, lent}
 use Rattle.records.specs.declared.Marks.{Marks}

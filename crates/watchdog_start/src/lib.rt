@@ -9,7 +9,7 @@ ghost use Rattle.rules.specs.Lists.{all, total, padded};
 ghost use Rattle.rules.specs.Numbers.{lawful, lawful-weight};
 ghost use Rattle.rules.specs.Records.{imageOf};
 ghost use Rattle.rules.specs.Build.{records, stateOf};
-ghost use Rattle.rules.specs.Start.{new-build, zero-state, start-refusal, start};
+ghost use Rattle.rules.specs.Start.{new-build, start-refusal, start};
 ghost use Rattle.records.specs.Carries.{st, Steps};
 ghost use Rattle.watchdog_start.specs.Writing.{with-more, leaf-records, wait-records, blank-marks, state-with};
 use records::Marks;

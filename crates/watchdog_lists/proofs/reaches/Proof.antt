@@ -1,14 +1,10 @@
 -- `reaches` stops at the first variable that is not below. Assumes nothing.
-use mathlib.Core.Path.{_≡_, refl, sym, _∙_}
-use Prim.Native.Nat.{_+_, _-_, _≤_}
+use mathlib.Core.Path.{_≡_, refl}
+use Prim.Native.Nat.{_-_}
 use native.Mathlib.Omega.{arith}
 use borrow.Author.Needs.{needs}
-use borrow.Author.Tests.{not-true, not-false}
 use lib.ListN.{length, drop}
-use lib.Dec.{ltb}
-use lib.IntN.{natAbs}
 use Rattle.rules.specs.Lists.{all}
-use Rattle.rules.specs.Records.{word-literal}
 use Rattle.watchdog_lists.specs.Literals.{words}
 use Rattle.watchdog_lists.proofs.Walk.{all-on, all-stop, all-end, inside, outside, word-there}
 use Rattle.watchdog_lists.proofs.Order.{Below, below-no, below-yes}

@@ -1,6 +1,6 @@
 -- `fitting` is the least of three. Assumes nothing.
-use mathlib.Core.Path.{_≡_, ap, _∙_}
-use Prim.Native.Nat.{ℕ, _/_, min}
+use mathlib.Core.Path.{ap, _∙_}
+use Prim.Native.Nat.{min}
 use borrow.Author.Needs.{needs}
 use Rattle.watchdog_nodes.proofs.fitting.Statement.{statement}
 use Rattle.watchdog_nodes.proofs.fitting.Tie as tie

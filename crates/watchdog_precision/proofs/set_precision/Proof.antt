@@ -1,5 +1,4 @@
 -- `set_precision` passes the test on. Assumes nothing.
-use mathlib.Core.Path.{sym, _∙_}
 use borrow.Author.Needs.{needs}
 use Rattle.watchdog_precision.proofs.Answers.{set-answer}
 use Rattle.watchdog_precision.proofs.set_precision.Statement.{statement}

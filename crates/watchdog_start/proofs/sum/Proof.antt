@@ -1,11 +1,8 @@
 -- `sum` has added what stands before i. Assumes nothing.
-use mathlib.Core.Path.{_≡_, refl, sym, ap, _∙_}
-use mathlib.Core.List.{List}
+use mathlib.Core.Path.{_≡_}
 use Prim.Native.Nat.{_+_, _-_, _≤_}
 use native.Mathlib.Omega.{arith}
-use borrow.Author.Needs.{needs}
-use lib.ListN.{length, take, drop}
-use lib.IntN.{ℤ}
+use lib.ListN.{length, drop}
 use Rattle.rules.specs.Lists.{total}
 use Rattle.watchdog_start.proofs.Written.{total-here, total-none, total-few}
 use Rattle.watchdog_start.proofs.sum.Statement.{statement}
