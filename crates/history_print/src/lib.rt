@@ -44,7 +44,7 @@ pub fn digest_with(h: u64, w: u32) -> u64 {
 }
 
 // The digest of the words from one place up to another, printed behind their count. Linear in them.
-fn digest_words(s: &[u32], from: usize, to: usize) {
+pub fn digest_words(s: &[u32], from: usize, to: usize) {
     let mut h: u64 = 0;
     let mut i = from;
     while i < to {

@@ -1,71 +1,32 @@
 // Starts, good and bad, one a line: the refusal number or 0, then inputs, sum, set divisor, records and next fresh number of the
 // state, every word of the store, every word of the clause buffer as a literal's word. All lent words are 7 before. Of a store of
-// thousands of words a sum is printed instead, through the words in order, h = (16777619 h + w) mod 4294967291.
+// thousands of words count and digest are printed instead, as crates/histories has them.
 use libc::STDOUT_FILENO;
-use rules::Answer;
 use rules::Started;
-
-fn number(n: u64) {
-    io::write_all(STDOUT_FILENO, b" ");
-    io::print_decimal(STDOUT_FILENO, n);
-}
-
-fn refusal(a: Answer) -> u64 {
-    match a {
-        Answer::Accepted => 0,
-        Answer::Refused(n) => n as u64,
-    }
-}
-
-fn print_words(s: &[u32]) {
-    let mut i: usize = 0;
-    while i < s.len() {
-        number(records::word(s, i) as u64);
-        i += 1;
-    }
-}
-
-fn print_literals(c: &[i32]) {
-    let mut i: usize = 0;
-    while i < c.len() {
-        number(numbers::word_at(c, i) as u64);
-        i += 1;
-    }
-}
-
-fn print_sum(s: &[u32]) {
-    let mut h: u64 = 0;
-    let mut i: usize = 0;
-    while i < s.len() {
-        h = (16777619 * h + (records::word(s, i) as u64)) % 4294967291;
-        i += 1;
-    }
-    number(h);
-}
 
 fn print_answer(name: &[u8], r: Started) {
     io::write_all(STDOUT_FILENO, name);
     let answer = r.answer;
-    number(refusal(answer));
-    number(r.state.inputs as u64);
-    number(r.state.sum);
-    number(r.state.set);
-    number(r.state.records as u64);
-    number(r.state.fresh as u64);
-    io::write_all(STDOUT_FILENO, b" |");
+    history_print::number(history_print::refusal(answer));
+    history_print::number(r.state.inputs as u64);
+    history_print::number(r.state.sum);
+    history_print::number(r.state.set);
+    history_print::number(r.state.records as u64);
+    history_print::number(r.state.fresh as u64);
+    history_print::bar();
 }
 
 fn print_clauses(c: &[i32]) {
-    io::write_all(STDOUT_FILENO, b" |");
-    print_literals(c);
-    io::write_all(STDOUT_FILENO, b"\n");
+    history_print::bar();
+    history_print::literals(c);
+    history_print::end_line();
 }
 
 fn case(name: &[u8], lits: &[i32], weights: &[u64], first: u32, store: &mut [u32]) {
     let mut clauses = [7i32; 3];
     let r = watchdog_start::start(lits, weights, first, store, &mut clauses);
     print_answer(name, r);
-    print_words(store);
+    history_print::words(store, 0, store.len());
     print_clauses(&clauses);
 }
 
@@ -108,7 +69,7 @@ fn many(name: &[u8], lits: &mut [i32], weights: &mut [u64]) {
     fill(lits, weights);
     let r = watchdog_start::start(lits, weights, 258, &mut store, &mut clauses);
     print_answer(name, r);
-    print_sum(&store);
+    history_print::digest_words(&store, 0, store.len());
     print_clauses(&clauses);
 }
 
