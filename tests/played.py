@@ -1,7 +1,11 @@
 """Histories of calls as text, the way crates/histories plays them: each line, and what it must print by the reference."""
+from pathlib import Path
+import sys
+
 from digests import digest
 import reference as ref
 
+CRATES = Path(__file__).resolve().parent.parent / "crates"
 TEXT = 65_536
 WORK = ref.WORK_WORDS
 SCRATCH = 20
@@ -183,17 +187,24 @@ class Play:
         expect(self.encode(lo, end), 0)
 
 
-def texts(play):
-    """What the program reads and what it must print."""
+def texts(crate, play):
+    """What the program of a crate reads and what it must print, by file."""
     expect(sum(len(line) + 1 for line in play.lines) <= TEXT, True)
-    return {name: "\n".join(lines) + "\n" for name, lines in (("stdin", play.lines), ("stdout", play.printed))}
+    for name, lines in (("stdin", play.lines), ("stdout", play.printed)):
+        yield CRATES / crate / name, "\n".join(lines) + "\n"
 
 
-def write_or_check(files, check):
-    """Writes these texts by file, or says whether each file has its text; whether all have."""
+def write_or_check(files):
+    """Writes these texts by file, or with --check says whether each file has its text; the exit status."""
+    words = sys.argv[1:]
+    if words not in ([], ["--check"]):
+        print(f"{sys.argv[0]}: it takes --check or nothing, and was given: {' '.join(words)}", file=sys.stderr)
+        return 2
     right = True
     for file, text in files:
-        agrees = file.is_file() and file.read_text() == text if check else bool(file.write_text(text))
+        if not words:
+            file.write_text(text)
+        agrees = file.is_file() and file.read_text() == text
         right = right and agrees
         print(f"{file.parent.name}/{file.name}: {'as' if agrees else 'NOT as'} the reference says, {text.count(chr(10))} lines")
-    return right
+    return 0 if right else 1

@@ -1,138 +1,214 @@
-//! Encode and enforce through the library against the plain writing of the same algorithm, on the same inputs, in one run.
+//! The library against a plain writing of the same algorithm, on the same inputs, in one run.
 //!
-//!     bench times [INPUTS...]    processor time of each side in microseconds, the median of some runs, and the ratio
-//!     bench sizes [INPUTS...]    what store, clause buffer and numbers a build needs
+//!     bench                            times, refinements and bytes, one after the other
+//!     bench times [INPUTS...]          encode and enforce: processor time of each side, the ratio, growth with inputs
+//!     bench refinements [INPUTS...]    the same for a refinement
+//!     bench bytes [INPUTS...]          bytes that an encode leaves written, against memory bandwidth
+//!     bench sizes [INPUTS...]          what store, clause buffer and numbers a build needs
 //!
 //! Both sides must write the same clauses and answer the same literals, else it stops. INPUTS are 16 64 128 256 by default.
+mod cases;
+mod clock;
+mod lent;
 mod plain;
 
+use cases::{cases, Case, KINDS};
+use clock::{median, timed, write_bandwidth, FILLED_GIB, FILLS};
+use lent::Lent;
 use plain::Plain;
-use tweedpillar::{encode_ub_change, enforce_ub, start, Refused, State, ANSWER_WORDS, RECORD_WORDS, WORK_WORDS};
+use std::hint::black_box;
+use tweedpillar::{State, ANSWER_WORDS};
 
-/// Numbers from a seed, each below the bound (a linear congruence; its upper half).
-struct Numbers(u64);
+fn head(title: &str, columns: &str) {
+    println!("## {title}\n\n| {columns} |\n|{}", "---|".repeat(1 + columns.matches('|').count()));
+}
 
-impl Numbers {
-    fn below(&mut self, bound: u64) -> u64 {
-        self.0 = self.0.wrapping_mul(6364136223846793005).wrapping_add(1442695040888963407);
-        (self.0 >> 33) % bound
+/// Two significant digits, and every digit before the point.
+fn short(number: f64) -> String {
+    let places = (1.0 - number.log10().floor()).clamp(0.0, 9.0);
+    format!("{number:.*}", places as usize)
+}
+
+/// Both sides run in turn: the median time of each, and what each reached in the last turn.
+struct Turns<A, B> {
+    us: f64,
+    reached: A,
+    plain_us: f64,
+    plain: B,
+}
+
+/// The more clauses, the fewer turns.
+fn in_turn<A, B>(clauses: usize, mut ours: impl FnMut() -> (f64, A), mut theirs: impl FnMut() -> (f64, B)) -> Turns<A, B> {
+    let runs = match clauses { 0..=20_000 => 9, 20_001..=200_000 => 3, _ => 1 };
+    let (mut times, mut plain_times) = (vec![], vec![]);
+    loop {
+        let ((us, reached), (plain_us, plain)) = (ours(), theirs());
+        times.push(us);
+        plain_times.push(plain_us);
+        if times.len() == runs {
+            return Turns { us: median(times), reached, plain_us: median(plain_times), plain };
+        }
     }
 }
 
-fn weights(kind: &str, count: usize) -> Vec<u64> {
-    let mut numbers = Numbers(count as u64);
-    (0..count)
-        .map(|_| match kind {
-            "equal" => 1,
-            "to 100" => 1 + numbers.below(100),
-            "powers to 1024" => 1 << numbers.below(11),
-            _ => 1 + numbers.below(1_048_575),
-        })
-        .collect()
-}
-
-fn median(mut times: Vec<f64>) -> f64 {
-    times.sort_by(f64::total_cmp);
-    times[times.len() / 2]
-}
-
-#[repr(C)]
-struct Timespec {
-    seconds: i64,
-    nanoseconds: i64,
-}
-
-extern "C" {
-    fn clock_gettime(clock: i32, now: *mut Timespec) -> i32;
-}
-
-/// Processor time of this thread in microseconds: waiting for other work does not count.
-fn now() -> f64 {
-    const THREAD_CPUTIME: i32 = 3;
-    let mut time = Timespec { seconds: 0, nanoseconds: 0 };
-    assert_eq!(unsafe { clock_gettime(THREAD_CPUTIME, &mut time) }, 0);
-    time.seconds as f64 * 1e6 + time.nanoseconds as f64 / 1e3
-}
-
-fn micros(work: impl FnOnce()) -> f64 {
-    let began = now();
-    work();
-    now() - began
-}
-
-struct Case {
-    lits: Vec<i32>,
-    weights: Vec<u64>,
-    first: u32,
-    lo: u64,
-    end: u64,
-}
-
-/// The build through the library over slices of these lengths, not cleared before.
-fn ours(case: &Case, store: &mut [u32], clauses: &mut [i32], work: &mut [u32]) -> Result<State, Refused> {
-    let state = start(&case.lits, &case.weights, case.first, store, clauses)?;
-    encode_ub_change(state, store, clauses, work, case.lo, case.end)
-}
-
-fn theirs(case: &Case) -> Plain {
-    let mut plain = Plain::new(&case.lits, &case.weights, case.first, 1);
+fn start_and_encode(case: &Case) -> Plain {
+    let mut plain = Plain::new(&case.lits, &case.weights, case.first);
     plain.encode(case.lo, case.end);
     plain
 }
 
-fn case(kind: &str, count: usize, range: &str) -> Case {
-    let weights = weights(kind, count);
-    let sum: u64 = weights.iter().sum();
-    let (lo, end) = match range {
-        "one bound" => (sum / 2, sum / 2 + 1),
-        "a tenth" => (sum / 2, sum / 2 + (sum / 10).max(1)),
-        _ => (0, sum),
+/// Start and encode by both sides.
+fn encodes(case: &Case) -> (Lent, Turns<State, Plain>) {
+    let plain = start_and_encode(case);
+    let mut lent = Lent::like(&plain);
+    let ours = || {
+        timed(|| {
+            let state = lent.start(case);
+            lent.encode(state, case.lo, case.end)
+        })
     };
-    Case { lits: (1..=count as i32).collect(), weights, first: count as u32 + 1, lo, end }
+    let turns = in_turn(plain.count, ours, || timed(|| start_and_encode(case)));
+    lent.must_equal(turns.reached, &turns.plain, case);
+    (lent, turns)
 }
 
-/// Both sides once: the plain one, and the library's state and slices, the store cut to what is used.
-fn compared(case: &Case) -> (Plain, State, Vec<u32>, Vec<i32>) {
-    let plain = theirs(case);
-    let (mut store, mut clauses) = (vec![0; RECORD_WORDS * 300_000], vec![0; plain.clauses.len()]);
-    let state = match ours(case, &mut store, &mut clauses, &mut vec![0; WORK_WORDS]) {
-        Ok(state) => state,
-        Err(Refused(number)) => panic!("{} inputs: refusal {number}", case.lits.len()),
-    };
-    assert_eq!((state.clauses, &clauses[..state.words]), (plain.count, &plain.clauses[..]), "{} inputs", case.lits.len());
-    store.truncate(RECORD_WORDS * state.records);
-    (plain, state, store, clauses)
-}
-
-fn sizes(kind: &str, count: usize, range: &str) {
-    let (_, state, _, _) = compared(&case(kind, count, range));
-    println!(
-        "| {count} | {kind} | {range} | {} | {} | {} | {} |",
-        state.records, state.clauses, state.words, state.variables
-    );
-}
-
-fn times(kind: &str, count: usize, range: &str) {
-    let case = case(kind, count, range);
-    let (plain, state, mut store, mut clauses) = compared(&case);
-    let (lo, mut work) = (case.lo, vec![0; WORK_WORDS]);
-    let runs = match plain.count { 0..=20_000 => 9, 20_001..=200_000 => 3, _ => 1 };
-    let (mut encodes, mut plain_encodes, mut enforces, mut plain_enforces) = (vec![], vec![], vec![], vec![]);
-    for _ in 0..runs {
-        encodes.push(micros(|| { ours(&case, &mut store, &mut clauses, &mut work).unwrap(); }));
-        plain_encodes.push(micros(|| { std::hint::black_box(theirs(&case)); }));
-        let mut scratch = [0; ANSWER_WORDS];
-        enforces.push(micros(|| { enforce_ub(state, &store, &clauses, &mut scratch, lo).unwrap(); }));
-        plain_enforces.push(micros(|| { for _ in 0..1000 { std::hint::black_box(plain.enforce(std::hint::black_box(lo))); } }) / 1000.0);
-    }
+/// Enforce by both sides, the plain one a thousand times a turn: the microseconds of one call each.
+fn enforces(case: &Case, lent: &Lent, state: State, plain: &Plain) -> (f64, f64) {
     let mut scratch = [0; ANSWER_WORDS];
-    let answer = enforce_ub(state, &store, &clauses, &mut scratch, lo).unwrap().to_vec();
-    assert_eq!(Some(answer), plain.enforce(lo), "{kind}, {count} inputs: answer");
-    let (e, pe, f, pf) = (median(encodes), median(plain_encodes), median(enforces), median(plain_enforces));
-    println!(
-        "| {count} | {kind} | {range} | {} | {} | {} | {e:.0} | {pe:.0} | {:.1} | {f:.0} | {pf:.2} | {:.0} |",
-        state.records, state.clauses, state.variables, e / pe, f / pf
+    let ours = || timed(|| lent.enforce(state, &mut scratch, case.lo).len());
+    let thousand = || {
+        let (us, ()) = timed(|| (0..1000).for_each(|_| drop(black_box(plain.enforce(black_box(case.lo))))));
+        (us / 1000.0, ())
+    };
+    let turns = in_turn(plain.count, ours, thousand);
+    (turns.us, turns.plain_us)
+}
+
+fn times(counts: &[usize]) {
+    head(
+        "Encode and enforce",
+        "inputs | weights | range | records | clauses | variables | encode, us | plain encode, us | encode ratio \
+         | enforce, us | plain enforce, us | enforce ratio",
     );
+    let mut measured = vec![];
+    for case in cases(counts, &["one bound", "a tenth"]) {
+        let (lent, Turns { us, reached, plain_us, plain }) = encodes(&case);
+        let (enforce, plain_enforce) = enforces(&case, &lent, reached, &plain);
+        println!(
+            "| {} | {} | {} | {} | {} | {} | {us:.0} | {plain_us:.0} | {:.1} | {enforce:.0} | {plain_enforce:.2} | {:.0} |",
+            case.lits.len(), case.kind, case.range, reached.records, reached.clauses, reached.variables,
+            us / plain_us, enforce / plain_enforce
+        );
+        if case.range == "one bound" {
+            measured.push((case, [reached.clauses as f64, us, plain_us]));
+        }
+    }
+    if counts.iter().any(|count| *count != counts[0]) {
+        println!();
+        growth(&measured);
+    }
+}
+
+/// The power of the inputs as which a figure grows: the slope of its logarithm over theirs, by least squares.
+fn exponent(points: &[(f64, f64)]) -> f64 {
+    let logs: Vec<(f64, f64)> = points.iter().map(|(inputs, figure)| (inputs.ln(), figure.ln())).collect();
+    let mean = |values: &dyn Fn(&(f64, f64)) -> f64| logs.iter().map(values).sum::<f64>() / logs.len() as f64;
+    let (x, y) = (mean(&|point| point.0), mean(&|point| point.1));
+    mean(&|point| (point.0 - x) * (point.1 - y)) / mean(&|point| (point.0 - x).powi(2))
+}
+
+fn growth(measured: &[(Case, [f64; 3])]) {
+    head("Growth with inputs", "weights | exponent of clauses | exponent of encode | exponent of plain encode");
+    for kind in KINDS {
+        let rows = measured.iter().filter(|(case, _)| case.kind == kind);
+        let points = |column: usize| -> Vec<(f64, f64)> {
+            rows.clone().map(|(case, figures)| (case.lits.len() as f64, figures[column])).collect()
+        };
+        println!("| {kind} | {:.2} | {:.2} | {:.2} |", exponent(&points(0)), exponent(&points(1)), exponent(&points(2)));
+    }
+}
+
+/// The bound encoded at the coarse divisor, untimed; then divisor 1 set and the bound encoded again.
+fn refine_plain(case: &Case, divisor: u64) -> (f64, Plain) {
+    let mut plain = Plain::new(&case.lits, &case.weights, case.first);
+    plain.set(divisor);
+    plain.encode(case.lo / divisor, case.lo / divisor + 1);
+    let (us, ()) = timed(|| {
+        plain.set(1);
+        plain.encode(case.lo, case.end);
+    });
+    (us, plain)
+}
+
+/// The same through the library: the states before and after.
+fn refine_ours(case: &Case, divisor: u64, lent: &mut Lent) -> (f64, [State; 2]) {
+    let state = lent.start(case);
+    let state = lent.set(state, divisor);
+    let coarse = lent.encode(state, case.lo / divisor, case.lo / divisor + 1);
+    let (us, refined) = timed(|| {
+        let state = lent.set(coarse, 1);
+        lent.encode(state, case.lo, case.end)
+    });
+    (us, [coarse, refined])
+}
+
+fn refinements(counts: &[usize]) {
+    head(
+        "Refinement",
+        "inputs | weights | divisor | clauses before | clauses | records before | records | refine, us | plain refine, us | refine ratio",
+    );
+    for case in cases(counts, &["one bound"]) {
+        let divisor = case.coarse_divisor();
+        let (_, plain) = refine_plain(&case, divisor);
+        let mut lent = Lent::like(&plain);
+        let turns = in_turn(plain.count, || refine_ours(&case, divisor, &mut lent), || refine_plain(&case, divisor));
+        let [coarse, refined] = turns.reached;
+        lent.must_equal(refined, &turns.plain, &case);
+        if refined.built == coarse.built {
+            continue; // nothing waited, so nothing was refined
+        }
+        println!(
+            "| {} | {} | {divisor} | {} | {} | {} | {} | {:.0} | {:.0} | {:.1} |",
+            case.lits.len(), case.kind, coarse.clauses, refined.clauses, coarse.records, refined.records,
+            turns.us, turns.plain_us, turns.us / turns.plain_us
+        );
+    }
+}
+
+fn bytes(counts: &[usize]) {
+    let bandwidth = write_bandwidth();
+    head(
+        "Bytes written",
+        "inputs | weights | store, bytes | clauses, bytes | work, bytes | encode, us | MB/s | % of bandwidth \
+         | plain encode, us | plain MB/s | plain % of bandwidth",
+    );
+    for case in cases(counts, &["one bound"]) {
+        let (lent, Turns { us, plain_us, plain, .. }) = encodes(&case);
+        let [store, clauses, work] = lent.bytes();
+        let rate = (store + clauses + work) as f64 / us;
+        let plain_rate = (4 * plain.clauses.len()) as f64 / plain_us;
+        println!(
+            "| {} | {} | {store} | {clauses} | {work} | {us:.0} | {} | {} | {plain_us:.0} | {} | {} |",
+            case.lits.len(), case.kind, short(rate), short(100.0 * rate / bandwidth),
+            short(plain_rate), short(100.0 * plain_rate / bandwidth)
+        );
+    }
+    println!("\nBandwidth: {bandwidth:.0} MB/s, the median of {FILLS} fills of {FILLED_GIB} GiB.");
+}
+
+fn sizes(counts: &[usize]) {
+    head("Sizes", "inputs | weights | range | records | clauses | clause words | variables");
+    for case in cases(counts, &["one bound", "every bound"]) {
+        let plain = start_and_encode(&case);
+        let mut lent = Lent::like(&plain);
+        let state = lent.start(&case);
+        let state = lent.encode(state, case.lo, case.end);
+        lent.must_equal(state, &plain, &case);
+        println!(
+            "| {} | {} | {} | {} | {} | {} | {} |",
+            case.lits.len(), case.kind, case.range, state.records, state.clauses, state.words, state.variables
+        );
+    }
 }
 
 fn refuse(why: &str) -> ! {
@@ -140,26 +216,31 @@ fn refuse(why: &str) -> ! {
     std::process::exit(2)
 }
 
-fn main() {
-    let mut words = std::env::args().skip(1);
-    let mode = words.next().unwrap_or("times".into());
-    let counts: Result<Vec<usize>, _> = words.map(|word| word.parse()).collect();
-    let (measure, ranges, head): (fn(&str, usize, &str), _, _) = match mode.as_str() {
-        "times" => (times, ["one bound", "a tenth"], "records | clauses | variables | encode, us | plain, us | ratio | enforce, us | plain, us | ratio"),
-        "sizes" => (sizes, ["one bound", "every bound"], "records | clauses | clause words | variables"),
-        _ => refuse(&format!("the first word is times or sizes, not {mode}")),
-    };
-    let counts = match counts {
+fn counts(words: &[String]) -> Vec<usize> {
+    if words.is_empty() {
+        return vec![16, 64, 128, 256];
+    }
+    match words.iter().map(|word| word.parse()).collect::<Result<Vec<usize>, _>>() {
         Ok(counts) if counts.iter().all(|count| (2..=256).contains(count)) => counts,
         _ => refuse("the number of inputs is 2 to 256"),
+    }
+}
+
+fn main() {
+    let words: Vec<String> = std::env::args_os().skip(1).map(|word| word.to_string_lossy().into_owned()).collect();
+    let Some((table, rest)) = words.split_first() else {
+        let counts = counts(&[]);
+        times(&counts);
+        println!();
+        refinements(&counts);
+        println!();
+        return bytes(&counts);
     };
-    println!("| inputs | weights | range | {head} |");
-    println!("|{}", "---|".repeat(4 + head.matches('|').count()));
-    for count in if counts.is_empty() { vec![16, 64, 128, 256] } else { counts } {
-        for kind in ["equal", "to 100", "powers to 1024", "to 1048575"] {
-            for range in ranges {
-                measure(kind, count, range);
-            }
-        }
+    match table.as_str() {
+        "times" => times(&counts(rest)),
+        "refinements" => refinements(&counts(rest)),
+        "bytes" => bytes(&counts(rest)),
+        "sizes" => sizes(&counts(rest)),
+        _ => refuse(&format!("the first word is times, refinements, bytes or sizes, not {table}")),
     }
 }

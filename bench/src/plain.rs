@@ -1,45 +1,70 @@
-//! Document 01's first build, encode and enforce written plainly: heap vectors for nodes and clauses, a hash table for outputs.
+//! Document 01's first build, refinement, encode and enforce written plainly: heap vectors for nodes and clauses, a hash table for outputs.
 //! No refusals, no lent memory, no test of what is handed in.
 use std::collections::HashMap;
 
 #[derive(Clone, Copy)]
+struct Join {
+    left: usize,
+    right: usize,
+    halved: bool,
+}
+
+#[derive(Clone, Copy)]
 enum Node {
     Leaf(i32),
-    Join { left: usize, right: usize, halved: bool },
+    Join(Join),
     Dummy,
+}
+
+/// A bucket as it stood before a refinement: half of its right maximum, its outputs as number and value in number order.
+struct Former {
+    bucket: usize,
+    half: usize,
+    outputs: Vec<(i32, usize)>,
 }
 
 pub struct Plain {
     nodes: Vec<Node>,
     maxima: Vec<usize>,
     outputs: HashMap<(usize, usize), i32>,
+    /// The largest weight first, once built.
     waiting: Vec<(usize, u64)>,
     tares: Vec<i32>,
-    root: usize,
+    /// The lowest first; the last is the root.
+    buckets: Vec<usize>,
     sum: u64,
-    divisor: u64,
+    set: u64,
+    /// 0 until the first build.
+    built: u64,
     fresh: i32,
     pub clauses: Vec<i32>,
     pub count: usize,
 }
 
-fn power(number: u64) -> u32 {
-    number.max(1).ilog2()
+fn power(number: u64) -> usize {
+    number.max(1).ilog2() as usize
 }
 
 impl Plain {
-    /// The inputs, built at once at this divisor.
-    pub fn new(lits: &[i32], weights: &[u64], first: u32, divisor: u64) -> Self {
+    pub fn new(lits: &[i32], weights: &[u64], first: u32) -> Self {
         let mut plain = Plain {
-            nodes: Vec::new(), maxima: Vec::new(), outputs: HashMap::new(), waiting: Vec::new(), tares: Vec::new(), root: 0,
-            sum: weights.iter().sum(), divisor, fresh: first as i32, clauses: Vec::new(), count: 0,
+            nodes: Vec::new(), maxima: Vec::new(), outputs: HashMap::new(), waiting: Vec::new(), tares: Vec::new(),
+            buckets: Vec::new(), sum: weights.iter().sum(), set: 1, built: 0, fresh: first as i32, clauses: Vec::new(), count: 0,
         };
         for (&literal, &weight) in lits.iter().zip(weights) {
             let node = plain.add(Node::Leaf(literal), 1);
             plain.waiting.push((node, weight));
         }
-        plain.build();
         plain
+    }
+
+    pub fn set(&mut self, divisor: u64) {
+        self.set = divisor;
+    }
+
+    /// What the library keeps a record for.
+    pub fn records(&self) -> usize {
+        self.nodes.len() + self.outputs.len() + self.waiting.len()
     }
 
     fn add(&mut self, node: Node, maximum: usize) -> usize {
@@ -51,7 +76,7 @@ impl Plain {
     fn join(&mut self, left: usize, right: usize, halved: bool) -> usize {
         let counted = if halved { self.maxima[right] / 2 } else { self.maxima[right] };
         let maximum = self.maxima[left] + counted;
-        self.add(Node::Join { left, right, halved }, maximum)
+        self.add(Node::Join(Join { left, right, halved }), maximum)
     }
 
     fn merge(&mut self, members: &[usize]) -> usize {
@@ -69,17 +94,17 @@ impl Plain {
         self.fresh - 1
     }
 
-    /// The queue taken down to the divisor: the members of each power's bucket.
+    /// The queue taken down to the set divisor: the members of each power's bucket, for the powers below this one.
     fn gather(&mut self, powers: usize) -> Vec<Vec<usize>> {
         let mut members = vec![Vec::new(); powers];
         let mut queue = std::mem::take(&mut self.waiting);
         queue.sort_by(|a, b| b.1.cmp(&a.1));
-        while queue.first().is_some_and(|entry| entry.1 >= self.divisor) {
+        while queue.first().is_some_and(|entry| entry.1 >= self.set) {
             let weight = queue[0].1;
             let run = queue.partition_point(|entry| entry.1 == weight);
             let nodes: Vec<usize> = queue.drain(..run).map(|entry| entry.0).collect();
             let node = self.merge(&nodes);
-            members[power(weight) as usize].push(node);
+            members[power(weight)].push(node);
             let rest = weight - (1 << power(weight));
             if rest > 0 {
                 let place = queue.partition_point(|entry| entry.1 >= rest);
@@ -90,81 +115,167 @@ impl Plain {
         members
     }
 
-    fn build(&mut self) {
-        let largest = self.waiting.iter().map(|entry| entry.1).max().unwrap_or(0);
-        let (lowest, top) = (power(self.divisor) as usize, power(largest) as usize);
-        let members = self.gather(top + 1);
-        self.tares = (lowest..top).map(|_| self.number()).collect();
-        let mut below = None;
-        for place in lowest..=top {
-            let mut nodes = members[place].clone();
-            if nodes.is_empty() && below.is_none() {
+    /// Buckets over members and tares of rising power; where the tares have ended a bucket gets none.
+    fn stack(&mut self, members: Vec<Vec<usize>>, tares: &[i32]) -> Vec<usize> {
+        let mut buckets = Vec::new();
+        for (place, mut nodes) in members.into_iter().enumerate() {
+            if nodes.is_empty() && buckets.is_empty() {
                 continue;
             }
-            if let Some(&tare) = self.tares.get(place - lowest) {
+            if let Some(&tare) = tares.get(place) {
                 nodes.push(self.add(Node::Leaf(tare), 1));
             }
             nodes.sort_by_key(|&node| self.maxima[node]);
             let mut bucket = self.merge(&nodes);
-            if let Some(lower) = below {
+            if let Some(&lower) = buckets.last() {
                 bucket = self.join(bucket, lower, true);
             } else if !self.waiting.is_empty() {
                 let dummy = self.add(Node::Dummy, 0);
                 bucket = self.join(bucket, dummy, true);
             }
-            below = Some(bucket);
+            buckets.push(bucket);
         }
-        self.root = below.unwrap_or(0);
+        buckets
     }
 
-    /// The literal of an output, which is defined where it is not yet.
+    fn build(&mut self) {
+        let largest = self.waiting.iter().map(|entry| entry.1).max().unwrap_or(0);
+        let (lowest, top) = (power(self.set), power(largest));
+        let members = self.gather(top + 1).split_off(lowest);
+        let tares: Vec<i32> = (lowest..top).map(|_| self.number()).collect();
+        self.buckets = self.stack(members, &tares);
+        self.tares = tares;
+        self.built = self.set;
+    }
+
+    /// Whether a waiting weight reaches the set divisor.
+    fn due(&self) -> bool {
+        self.waiting.first().is_some_and(|entry| entry.1 >= self.set)
+    }
+
+    fn refine(&mut self) {
+        let old = std::mem::take(&mut self.buckets);
+        let formers: Vec<Former> = old.iter().map(|&bucket| self.former(bucket)).collect();
+        let (lowest, above) = (power(self.set), power(self.built));
+        let mut members = self.gather(above).split_off(lowest);
+        let mut tares: Vec<i32> = (lowest..above).map(|_| self.number()).collect();
+        let once_left_out = self.tares.len() + 1 - old.len();
+        members.resize(members.len() + once_left_out, Vec::new());
+        tares.append(&mut self.tares);
+        self.buckets = self.stack(members, &tares);
+        self.tares = tares;
+        self.built = self.set;
+        for bucket in old {
+            self.link(bucket);
+        }
+        for former in formers {
+            self.extend(former);
+        }
+    }
+
+    fn join_at(&self, bucket: usize) -> Join {
+        match self.nodes[bucket] {
+            Node::Join(join) => join,
+            _ => unreachable!("a bucket of a build in which something waits is a join"),
+        }
+    }
+
+    fn former(&self, bucket: usize) -> Former {
+        let numbered = |value| self.outputs.get(&(bucket, value)).map(|&number| (number, value));
+        let mut outputs: Vec<(i32, usize)> = (1..=self.maxima[bucket]).filter_map(numbered).collect();
+        outputs.sort();
+        Former { bucket, half: self.maxima[self.join_at(bucket).right] / 2, outputs }
+    }
+
+    /// Puts an old bucket on top of the others, its maximum brought up to date.
+    fn link(&mut self, bucket: usize) {
+        let left = self.join_at(bucket).left;
+        let right = self.buckets[self.buckets.len() - 1];
+        self.nodes[bucket] = Node::Join(Join { left, right, halved: true });
+        self.maxima[bucket] = self.maxima[left] + self.maxima[right] / 2;
+        self.buckets.push(bucket);
+    }
+
+    fn extend(&mut self, former: Former) {
+        let join = self.join_at(former.bucket);
+        for (number, value) in former.outputs {
+            let sides = self.sides(join, value, former.half + 1);
+            self.write(&sides, number);
+        }
+    }
+
+    /// The literal of an output, which is defined where it is not yet; 0 for value 0.
     fn output(&mut self, node: usize, value: usize) -> i32 {
-        let (left, right, halved) = match self.nodes[node] {
+        if value == 0 {
+            return 0;
+        }
+        let join = match self.nodes[node] {
             Node::Leaf(literal) => return literal,
-            Node::Dummy => return 0,
-            Node::Join { left, right, halved } => (left, right, halved),
+            Node::Dummy => unreachable!("a dummy's maximum is 0"),
+            Node::Join(join) => join,
         };
         if let Some(&number) = self.outputs.get(&(node, value)) {
             return number;
         }
-        let asked = if halved { 2 } else { 1 };
-        let (most_left, most_right) = (self.maxima[left], self.maxima[right] / asked);
-        let mut sides = Vec::new();
-        for a in value.saturating_sub(most_right)..=value.min(most_left) {
-            let b = value - a;
-            let l = if a > 0 { self.output(left, a) } else { 0 };
-            let r = if b > 0 { self.output(right, asked * b) } else { 0 };
-            sides.push((l, r));
-        }
+        let sides = self.sides(join, value, 0);
         let number = self.number();
         self.outputs.insert((node, value), number);
-        for (l, r) in sides {
-            self.clauses.extend([l, r].iter().filter(|&&side| side != 0).map(|side| -side));
-            self.clauses.extend([number, 0]);
-            self.count += 1;
-        }
+        self.write(&sides, number);
         number
     }
 
+    /// The literals left and right of the pairs of this value whose b is at least `least`.
+    fn sides(&mut self, join: Join, value: usize, least: usize) -> Vec<(i32, i32)> {
+        let asked = if join.halved { 2 } else { 1 };
+        let (most_left, most_right) = (self.maxima[join.left], self.maxima[join.right] / asked);
+        let mut sides = Vec::new();
+        for a in value.saturating_sub(most_right)..=value.min(most_left) {
+            let b = value - a;
+            if b >= least {
+                sides.push((self.output(join.left, a), self.output(join.right, asked * b)));
+            }
+        }
+        sides
+    }
+
+    fn write(&mut self, sides: &[(i32, i32)], number: i32) {
+        for &(left, right) in sides {
+            self.clauses.extend([left, right].iter().filter(|&&side| side != 0).map(|side| -side));
+            self.clauses.extend([number, 0]);
+            self.count += 1;
+        }
+    }
+
     pub fn encode(&mut self, lo: u64, end: u64) {
+        if self.built == 0 {
+            self.build();
+        } else if self.due() {
+            self.refine();
+        }
+        let root = self.buckets[self.buckets.len() - 1];
         let weight = 1u64 << self.tares.len();
-        let last = ((end - 1) / weight + 1).min(self.maxima[self.root] as u64);
+        let last = ((end - 1) / weight + 1).min(self.maxima[root] as u64);
         for value in lo / weight + 1..=last {
-            self.output(self.root, value as usize);
+            self.output(root, value as usize);
         }
     }
 
     /// The literals to assume, or none where the bound is not encoded.
     pub fn enforce(&self, u: u64) -> Option<Vec<i32>> {
-        if self.sum <= u && self.divisor == 1 {
+        if self.sum <= u && self.set == 1 {
             return Some(Vec::new());
         }
+        let &root = self.buckets.last()?;
+        if self.due() {
+            return None;
+        }
+        let u = u / (self.built / self.set);
         let weight = 1u64 << self.tares.len();
         let j = u / weight;
-        if j >= self.maxima[self.root] as u64 {
+        if j >= self.maxima[root] as u64 {
             return Some(Vec::new());
         }
-        let output = *self.outputs.get(&(self.root, j as usize + 1))?;
+        let output = *self.outputs.get(&(root, j as usize + 1))?;
         let lacking = weight - 1 - u % weight;
         let mut answer = vec![-output];
         answer.extend((0..self.tares.len()).rev().filter(|k| lacking >> k & 1 == 1).map(|k| self.tares[k]));
