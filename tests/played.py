@@ -29,7 +29,7 @@ class Play:
     """Writes histories line by line, plays each line over the reference and keeps what it must print."""
 
     def __init__(self, store_words, clause_words):
-        self.lines, self.printed = [], []
+        self.lines, self.printed, self.brief = [], [], False
         self.buffers = [0] * store_words, [0] * clause_words, [0] * WORK
 
     # lines that are no calls
@@ -88,7 +88,14 @@ class Play:
     def say(self, *parts):
         self.printed.append(" ".join([f"{self.lines[-1]}:", *map(str, parts)]))
 
+    def letter(self, small):
+        """The letter of a call; a capital where only its refusal number is to be printed."""
+        return small.upper() if self.brief else small
+
     def say_state(self, *answers):
+        if self.brief:
+            self.say(answers[0])
+            return answers[0]
         *numbers, tares, tares_used, buckets, buckets_used = self.state
         store, clauses, work = self.lent()
         records, words, _ = self.used()
@@ -101,19 +108,19 @@ class Play:
         return answers[0]
 
     def start(self, first):
-        self.line("s", first)
+        self.line(self.letter("s"), first)
         store, clauses, work = self.lent()
         refusal, self.state = ref.start(self.lits, self.weights, first, store, clauses)
         self.keep_all(store, clauses, work)
         return self.say_state(refusal)
 
     def set(self, divisor):
-        self.line("p", divisor)
+        self.line(self.letter("p"), divisor)
         refusal, self.state = ref.set_precision(self.state, *self.lent()[:2], divisor)
         return self.say_state(refusal)
 
     def encode(self, lo, end):
-        self.line("e", lo, end)
+        self.line(self.letter("e"), lo, end)
         lent = self.lent()
         refusal, self.state = ref.encode_ub_change(self.state, *lent, lo, end)
         self.keep_all(*lent)
