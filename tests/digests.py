@@ -1,4 +1,4 @@
-"""How the programs print many words shortly; crates/histories/src/lib.rt says the same."""
+"""How the programs print many words shortly; crates/history_play/src/lib.rt says the same."""
 MODULUS, FACTOR = 4_294_967_291, 16_777_619
 
 

@@ -1,4 +1,4 @@
-"""Histories of calls as text, the way crates/histories plays them: each line, and what it must print by the reference."""
+"""Histories of calls as text, the way crates/history_play plays them: each line, and what it must print by the reference."""
 from pathlib import Path
 import sys
 

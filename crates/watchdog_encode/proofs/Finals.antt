@@ -29,14 +29,14 @@ use Rattle.preserve.specs.Sounds.{encode-sound}
 use Rattle.records.specs.Carries.{St, st, written, Fits, Holds, Stores, with-records}
 use Rattle.records.proofs.Grow.{fits-or}
 use Rattle.records.proofs.Entry.{held-zeroed}
-use Rattle.watchdog_outputs.specs.Taken.{with-waiting}
-use Rattle.watchdog_entry.specs.declared.Structure.{Structure}
-use Rattle.watchdog_entry.specs.Named.{begun}
-use Rattle.watchdog_entry.proofs.Begin.{count-is, stored}
-use Rattle.watchdog_undo.specs.Aside.{Aside, But}
-use Rattle.watchdog_save.proofs.Copying.{front-same}
-use Rattle.watchdog_reach.specs.Starts.{Starts}
-use Rattle.watchdog_reach.specs.Reached.{whole, Has, Reached}
+use Rattle.encode_outputs.specs.Taken.{with-waiting}
+use Rattle.encode_begin.specs.declared.Structure.{Structure}
+use Rattle.encode_begin.specs.Named.{begun}
+use Rattle.encode_begin.proofs.Begin.{count-is, stored}
+use Rattle.encode_undo.specs.Aside.{Aside, But}
+use Rattle.encode_save.proofs.Copying.{front-same}
+use Rattle.encode_reach.specs.Starts.{Starts}
+use Rattle.encode_reach.specs.Reached.{whole, Has, Reached}
 use Rattle.watchdog_encode.specs.Busy.{Busy, stated}
 use Rattle.watchdog_encode.proofs.Room.{no-room-full, room-fit, end-words}
 use Rattle.watchdog_encode.proofs.Ends.{refused-7, accepted-done, accepted-idle, self-room}

@@ -10,9 +10,9 @@ use Rattle.rules.specs.Lists.{all, in-turn}
 use Rattle.rules.specs.Records.{Kind, join, nodeAt}
 use Rattle.rules.specs.Totalizer.{Arena, Define, counts, pairs, number-of, write, take-number, ask-pair, define-join, define-kind, define, define-output}
 use Rattle.records.proofs.Grow.{Grows}
-use Rattle.totalizer.proofs.Defining.{found-kind}
-use Rattle.totalizer.proofs.Growth.{turns-grow, output-grows, pair-grows, define-grows}
-use Rattle.watchdog_outputs.specs.Values.{all-defined}
+use Rattle.totalizer_define.proofs.Defining.{found-kind}
+use Rattle.totalizer_define.proofs.Growth.{turns-grow, output-grows, pair-grows, define-grows}
+use Rattle.encode_outputs.specs.Values.{all-defined}
 
 -- a defined output is left as it is
 output-defined : (s : Arena) (n v : ℕ) → (number-of (s .records) n v ≡ 0 → ⊥) → define-output s n v ≡ s

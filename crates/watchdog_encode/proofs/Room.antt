@@ -18,7 +18,7 @@ use Rattle.records.specs.declared.Marks.{Marks}
 use Rattle.records.specs.Carries.{st, written, Fits, peak, with-records}
 use Rattle.records.proofs.Small.{room-fits, fits-room, peak-sound}
 use Rattle.preserve.specs.Sounds.{Sounds}
-use Rattle.watchdog_outputs.specs.Taken.{with-waiting}
+use Rattle.encode_outputs.specs.Taken.{with-waiting}
 
 module _ (store : List ℕ) (clauses : List ℤ) (m : Marks) (c : Build) (before : c .words-before ≡ m .words) (inside : m .words ≤ length clauses) where
   abbrev end : Arena

@@ -23,10 +23,10 @@ use Rattle.laws.specs.Formed.{WellFormed}
 use Rattle.preserve.specs.Given.{set-positive, waiting-below}
 use Rattle.preserve.specs.Encodes.{root-join}
 use Rattle.records.specs.Carries.{Stores}
-use Rattle.watchdog_entry.proofs.Begin.{stored}
-use Rattle.watchdog_outputs.specs.Values.{values, all-defined}
-use Rattle.watchdog_reach.proofs.Ways.{first-way, refined-way, stands, stands-built}
-use Rattle.watchdog_reach.proofs.Standing.{tares-count, root-is}
+use Rattle.encode_begin.proofs.Begin.{stored}
+use Rattle.encode_outputs.specs.Values.{values, all-defined}
+use Rattle.encode_reach.proofs.Ways.{first-way, refined-way, stands, stands-built}
+use Rattle.encode_reach.proofs.Standing.{tares-count, root-is}
 use Rattle.watchdog_encode.proofs.Rest.{all-idle, some-taken}
 use Rattle.watchdog_encode.proofs.Ends.{self-room}
 use Rattle.watchdog_encode.proofs.States.{encode-way}

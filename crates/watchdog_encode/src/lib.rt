@@ -11,12 +11,12 @@ ghost use Rattle.rules.specs.Build.{buildOf, buckets-of, largest};
 ghost use Rattle.rules.specs.Encode.{prepared, nothing-asked, encode, nothing-done, divisor-above, encoded, encode-ub-change};
 ghost use Rattle.laws.specs.Facts.{All};
 ghost use Rattle.laws.specs.Formed.{WellFormed};
-ghost use Rattle.watchdog_undo.specs.Aside.{Aside, But};
+ghost use Rattle.encode_undo.specs.Aside.{Aside, But};
 ghost use Rattle.watchdog_encode.specs.Busy.{Busy, stated};
+use encode_begin::Structure;
 use rules::Answer;
 use rules::Encoded;
 use rules::State;
-use watchdog_entry::Structure;
 
 // The answer with the totals of its state. Constant time.
 fn encoded(answer: Answer, s: State) -> Encoded
@@ -46,7 +46,7 @@ fn nothing_asked(s: State, lo: u64, end: u64) -> bool
 fn reached(s: State, store: &[u32]) -> bool
     ensures { λ r. ⌜ ((c : List ℤ) → WellFormed s (now (store .entry)) c → r ≡ leb (s .set) (largest (buildOf s (now (store .entry)) .queue))) ⌝ }
 {
-    s.set <= (watchdog_ask::largest(store, s.records) as u64)
+    s.set <= (precision_steps::largest(store, s.records) as u64)
 }
 
 // 10: first build with the divisor above every weight. Linear in the records.
@@ -80,8 +80,8 @@ fn idle(s: State, store: &[u32], lo: u64, end: u64) -> bool
     let buckets = s.buckets;
     let root = buckets[0];
     let most = records::maximum(store, s.records, root);
-    let v = watchdog_outputs::values(most, s.tares_used, lo, end);
-    watchdog_outputs::all_defined(store, s.records, root, v.first, v.many)
+    let v = encode_outputs::values(most, s.tares_used, lo, end);
+    encode_outputs::all_defined(store, s.records, root, v.first, v.many)
 }
 
 // Every word of store and clause buffer from the marks on, and the work slice, set to 0. Linear in the words set.
@@ -124,7 +124,7 @@ fn undone(s: State, store: &mut [u32], clauses: &mut [i32], work: &mut [u32], n:
     requires { ⌜ (n ≤ s .records) × (s .records ≤ n + 256) × (8 * s .records ≤ length (now store)) × (16384 ≤ length (now work)) × (s .«buckets_used» ≤ 20) × All (λ b. 8 * b + 8 ≤ length (now store)) (buckets-of s) ⌝ }
     ensures { λ r. ⌜ (r ≡ encoded 7 s) × ((o : List ℕ) → Aside s o (now (work .entry)) n → But s o (now (store .entry)) n → now (store .exit) ≡ padded 0 (length o) (take (8 * s .records) o)) × (now (clauses .exit) ≡ padded (pos 0) (length (now (clauses .entry))) (take (s .words) (now (clauses .entry)))) × (now (work .exit) ≡ replicate (length (now (work .entry))) 0) ⌝ }
 {
-    watchdog_undo::put_back(s, store, work, n);
+    encode_undo::put_back(s, store, work, n);
     settle(store, clauses, work, s.records, s.words);
     let answer = Answer::Refused(7);
     encoded(answer, s)
@@ -162,9 +162,9 @@ fn carried_out(
     ensures { λ r. ⌜ record { answer = r; store = now (store .exit); clauses = now (clauses .exit); work = now (work .exit) } ≡ encode-ub-change s (now (store .entry)) (now (clauses .entry)) (now (work .entry)) lo end ⌝ }
 {
     let built = built_after(s, store);
-    let n = watchdog_entry::made(store, s.records);
-    watchdog_undo::set_aside(s, store, work, n);
-    let z = watchdog_reach::reach(s, store, clauses, work, n, lo, end);
+    let n = encode_begin::made(store, s.records);
+    encode_undo::set_aside(s, store, work, n);
+    let z = encode_reach::reach(s, store, clauses, work, n, lo, end);
     let m = z.marks;
     if m.full {
         return undone(s, store, clauses, work, n);
@@ -185,7 +185,7 @@ pub fn encode_ub_change(
 ) -> Encoded
     ensures { λ r. ⌜ record { answer = r; store = now (store .exit); clauses = now (clauses .exit); work = now (work .exit) } ≡ encode-ub-change s (now (store .entry)) (now (clauses .entry)) (now (work .entry)) lo end ⌝ }
 {
-    if !watchdog_check::well_formed(s, store, clauses) {
+    if !check_well_formed::well_formed(s, store, clauses) {
         let answer = Answer::Refused(12);
         return encoded(answer, s);
     }

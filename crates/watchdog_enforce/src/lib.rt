@@ -19,11 +19,11 @@ pub fn enforce_count(
         (now (refusal .exit) ≡ enforce-ub s (now (store .entry)) (now (clauses .entry)) (now (scratch .entry)) u .refusal) ×
         (r ≡ length (enforce-ub s (now (store .entry)) (now (clauses .entry)) (now (scratch .entry)) u .answer)) ⌝ }
 {
-    if !watchdog_check::well_formed(s, store, clauses) {
+    if !check_well_formed::well_formed(s, store, clauses) {
         *refusal = 12;
         return 0;
     }
-    let a = watchdog_answer::answer(s, store, scratch, u);
+    let a = enforce_answer::answer(s, store, scratch, u);
     *refusal = a.refusal;
     a.count
 }

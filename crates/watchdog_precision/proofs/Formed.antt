@@ -12,7 +12,7 @@ use Rattle.laws.specs.Formed.{WellFormed}
 use Rattle.laws.specs.Whole.{well-formed-facts}
 use Rattle.laws.specs.Reads.{slots-count}
 use Rattle.records.specs.Carries.{Stores}
-use Rattle.watchdog_ask.proofs.Whole.{readable}
+use Rattle.precision_steps.proofs.Whole.{readable}
 
 module _ (s : State) (store : List ℕ) (clauses : List ℤ) (formed : well-formed s store clauses ≡ true) where
   facts : WellFormed s store clauses

@@ -12,16 +12,16 @@ use rules::State;
 pub fn set_precision(s: State, store: &[u32], clauses: &[i32], divisor: u64) -> Set
     ensures { λ r. ⌜ r ≡ set-precision s (now (store .entry)) (now (clauses .entry)) divisor ⌝ }
 {
-    let formed = watchdog_check::well_formed(s, store, clauses);
-    watchdog_ask::set(s, formed, divisor)
+    let formed = check_well_formed::well_formed(s, store, clauses);
+    precision_steps::set(s, formed, divisor)
 }
 
 // The next divisor worth setting. As the test of well formed grows, and linear in the records.
 pub fn next_precision(s: State, store: &[u32], clauses: &[i32]) -> Precision
     ensures { λ r. ⌜ r ≡ next-precision s (now (store .entry)) (now (clauses .entry)) ⌝ }
 {
-    if watchdog_check::well_formed(s, store, clauses) {
-        return Precision::Divisor(watchdog_ask::next(store, s.records));
+    if check_well_formed::well_formed(s, store, clauses) {
+        return Precision::Divisor(precision_steps::next(store, s.records));
     }
     Precision::Refused(12)
 }
@@ -30,10 +30,10 @@ pub fn next_precision(s: State, store: &[u32], clauses: &[i32]) -> Precision
 pub fn is_max_precision(s: State, store: &[u32], clauses: &[i32]) -> Maximum
     ensures { λ r. ⌜ r ≡ is-max-precision s (now (store .entry)) (now (clauses .entry)) ⌝ }
 {
-    if !watchdog_check::well_formed(s, store, clauses) {
+    if !check_well_formed::well_formed(s, store, clauses) {
         return Maximum::Refused(12);
     }
-    if watchdog_ask::some_wait(store, s.records) {
+    if precision_steps::some_wait(store, s.records) {
         return Maximum::No;
     }
     Maximum::Yes
@@ -43,8 +43,8 @@ pub fn is_max_precision(s: State, store: &[u32], clauses: &[i32]) -> Maximum
 pub fn coarse_ub(s: State, store: &[u32], clauses: &[i32], u: u64) -> Coarse
     ensures { λ r. ⌜ r ≡ coarse-ub s (now (store .entry)) (now (clauses .entry)) u ⌝ }
 {
-    if watchdog_check::well_formed(s, store, clauses) {
-        return Coarse::Bound(watchdog_ask::coarse(s.built, s.tares_used, u));
+    if check_well_formed::well_formed(s, store, clauses) {
+        return Coarse::Bound(precision_steps::coarse(s.built, s.tares_used, u));
     }
     Coarse::Refused(12)
 }

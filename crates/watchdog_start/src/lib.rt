@@ -119,7 +119,7 @@ pub fn start(
 ) -> Started
     ensures { λ r. ⌜ record { answer = r; store = now (store .exit); clauses = now (clauses .exit) } ≡ start (now (lits .entry)) (now (weights .entry)) first (now (store .entry)) (now (clauses .entry)) ⌝ }
 {
-    let n = watchdog_lists::refusal(lits, weights, first, store);
+    let n = start_lists::refusal(lits, weights, first, store);
     if n == 0 {
         return Started {
             answer: Answer::Accepted,

@@ -1,7 +1,7 @@
 -- `reached` compares the set divisor with the largest weight. Assumes nothing.
 use mathlib.Core.Path.{ap}
 use lib.Dec.{leb}
-use Rattle.watchdog_reach.proofs.Ways.{largest-by}
+use Rattle.encode_reach.proofs.Ways.{largest-by}
 use borrow.Author.Needs.{needs}
 use Rattle.watchdog_encode.proofs.reached.Statement.{statement}
 use Rattle.watchdog_encode.proofs.reached.Tie as tie

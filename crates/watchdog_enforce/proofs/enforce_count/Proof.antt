@@ -3,9 +3,9 @@ use mathlib.Core.Path.{sym, ap, _∙_}
 use borrow.Author.Needs.{needs}
 use borrow.Author.Tests.{not-true, not-false}
 use Rattle.laws.specs.Whole.{well-formed-facts}
-use Rattle.watchdog_answer.specs.declared.Answered.{Answered}
-use Rattle.watchdog_answer.specs.Ends.{answered}
-use Rattle.watchdog_ask.proofs.Whole.{readable}
+use Rattle.enforce_answer.specs.declared.Answered.{Answered}
+use Rattle.enforce_answer.specs.Ends.{answered}
+use Rattle.precision_steps.proofs.Whole.{readable}
 use Rattle.watchdog_enforce.proofs.Ends.{refused, given}
 use Rattle.watchdog_enforce.proofs.enforce_count.Statement.{statement}
 use Rattle.watchdog_enforce.proofs.enforce_count.Tie as tie

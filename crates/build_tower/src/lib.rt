@@ -1,0 +1,80 @@
+// A tower of buckets: what a first build and a refinement have in common.
+ghost use mathlib.Core.Path.{_≡_};
+ghost use mathlib.Core.List.{List, _++_, map};
+ghost use Prim.Native.Nat.{ℕ, _+_, _-_, _^_, _≤_, _<_};
+ghost use lib.ListN.{length, take};
+ghost use lib.IntN.{ℤ};
+ghost use Rattle.rules.specs.Lists.{sort};
+ghost use Rattle.rules.specs.Records.{Record, Entry, waiting};
+ghost use Rattle.rules.specs.Build.{largest};
+ghost use Rattle.rules.specs.Queue.{heavier};
+ghost use Rattle.laws.specs.Facts.{All};
+ghost use Rattle.records.specs.Carries.{st, Makes, Stores};
+ghost use Rattle.build_line.specs.Work.{line, count-at, members-from, made-in};
+ghost use Rattle.build_queue.specs.Queued.{Queued};
+ghost use Rattle.build_tower.specs.Rule.{tower};
+use records::Marks;
+
+// The marks, where the queue begins, and how many buckets were made.
+pub struct Segment {
+    pub marks: Marks,
+    pub head: usize,
+    pub used: usize,
+}
+
+// No bucket with a member. At most 20 turns.
+fn clear_counts(work: &mut [u32])
+    requires { ⌜ 13312 ≤ length (now work) ⌝ }
+    ensures { λ _. ⌜ ((k : ℕ) → k < 20 → count-at (now (work .exit)) k ≡ 0) × (length (now (work .exit)) ≡ length (now (work .entry))) ⌝ }
+{
+    let mut k: usize = 0;
+    while k < 20 {
+        records::put(work, 2048 + k, 0);
+        k += 1;
+    }
+}
+
+// The waiting records from one place to another as a queue, and no bucket with a member. Each linear in the queue.
+pub fn queued(s: &[u32], work: &mut [u32], from: usize, to: usize) -> usize
+    requires { ⌜ (from ≤ to) × (to ≤ from + 256) × (13312 ≤ length (now work)) ⌝ }
+    ensures { λ h. ⌜ ((rs : List Record) (es : List Entry) → Stores (now (s .entry)) to (rs ++ map waiting es) → length rs ≡ from → line (now (work .exit)) h ≡ sort heavier es) × ((k : ℕ) → k < 20 → count-at (now (work .exit)) k ≡ 0) × (length (now (work .exit)) ≡ length (now (work .entry))) × (h ≤ 512) ⌝ }
+{
+    clear_counts(work);
+    build_queue::enqueue(s, work, from, to)
+}
+
+// The queue at h run while it reaches d, and the buckets of powers p to n - 1 with these tares, after so many numbers were taken.
+// As the queue and the buckets grow.
+pub fn tower(
+    s: &mut [u32],
+    work: &mut [u32],
+    m: Marks,
+    h: usize,
+    d: u64,
+    tares: [u32; 19],
+    many: usize,
+    p: usize,
+    n: usize,
+    taken: u32,
+) -> Segment
+    requires { ⌜ Queued (now work) h × (1 ≤ d) × (p ≤ n) × (n ≤ 20) × (many ≤ 19) × (m .fresh + taken ≤ 1000000001 → All (λ t. t < 2147483648) (take many tares)) ⌝ }
+    ensures { λ z. ⌜ ((c : List ℤ) → largest (line (now (work .entry)) h) < 2 ^ n → Makes (st (now (s .entry)) c m) (st (now (s .exit)) c (z .marks)) (made-in (now (work .exit)) (z .used), line (now (work .exit)) (z .head)) (tower taken d p (take many tares) (members-from (now (work .entry)) 0 n) (line (now (work .entry)) h))) × (length (now (work .exit)) ≡ length (now (work .entry))) × (p + z .used ≤ n) × (z .head ≤ 512) ⌝ }
+{
+    let a = records_append::numbers(m, taken);
+    if a.full {
+        return Segment {
+            marks: a,
+            head: h,
+            used: 0,
+        };
+    }
+    let g = build_queue::gather(s, work, a, h, d);
+    let wait = g.head < 512;
+    let b = build_buckets::buckets_over(s, work, g.marks, wait, tares, many, p, n);
+    let marks = b.marks;
+    Segment {
+        marks,
+        head: g.head,
+        used: b.used,
+    }
+}

@@ -1,0 +1,22 @@
+-- `is_dummy` tests that a node is neither join nor leaf. Assumes nothing.
+use mathlib.Core.Path.{sym, ap, _∙_}
+use mathlib.Core.Bool.{not}
+use borrow.Author.Needs.{needs}
+use Rattle.check_buckets.proofs.Buckets.{dummy-join, dummy-other}
+use Rattle.check_buckets.proofs.is_dummy.Statement.{statement}
+use Rattle.check_buckets.proofs.is_dummy.Tie as tie
+
+joins-requires : tie.Need-joins-requires
+joins-requires c κs = search needs
+
+returns : tie.Need-returns
+returns c = λ rs h. dummy-join _ (sym (c .before .joins .ensures rs h) ∙ c .if1 .taken)
+
+is-leaf-requires : tie.Need-is-leaf-requires
+is-leaf-requires c κs = search needs
+
+returns-2 : tie.Need-returns-2
+returns-2 c = λ rs h. ap not (c .is-leaf .ensures rs h) ∙ dummy-other _ (sym (c .before .before .joins .ensures rs h) ∙ c .before .if1 .left)
+
+pub is-dummy-spec : {M : Type 1} → statement M
+is-dummy-spec = tie.close (tie.spec joins-requires returns is-leaf-requires returns-2)

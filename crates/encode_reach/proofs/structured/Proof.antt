@@ -1,0 +1,57 @@
+-- `structured` builds or refines over the queue. Assumes nothing.
+use mathlib.Core.Path.{_∙_}
+use native.Mathlib.Omega.{arith}
+use Rattle.encode_reach.proofs.Standing.{few-wait}
+use Rattle.encode_reach.proofs.Ways.{ready, refinable, first-structured, refined-structured, begun-fresh, entered-by, refines-by}
+use borrow.Author.Needs.{needs}
+use Rattle.encode_reach.proofs.structured.Statement.{statement}
+use Rattle.encode_reach.proofs.structured.Tie as tie
+
+begun-requires : tie.Need-begun-requires
+begun-requires c κs = search needs
+
+queued-requires : tie.Need-queued-requires
+queued-requires c κs = (few-wait (c .before .before .before .before .before .args .s) (c .before .before .before .before .before .args .store .now) (c .before .before .before .before .before .args .clauses .now) (c .before .before .before .before .before .pre .0) _ (c .before .before .before .before .before .pre .1) .0, omega (arith, few-wait (c .before .before .before .before .before .args .s) (c .before .before .before .before .before .args .store .now) (c .before .before .before .before .before .args .clauses .now) (c .before .before .before .before .before .pre .0) _ (c .before .before .before .before .before .pre .1)), c .before .before .before .before .before .pre .3)
+
+build-structure-requires : tie.Need-build-structure-requires
+build-structure-requires c κs = (ready (c .before .before .before .before .before .before .before .before .before .before .before .before .args .s) (c .before .before .before .before .before .before .before .before .before .before .before .before .args .store .now) (c .before .before .before .before .before .before .before .before .before .before .before .before .args .clauses .now) (c .before .before .before .before .before .before .before .before .before .before .before .before .pre .0) _ (c .before .before .before .before .before .before .before .before .before .before .before .before .pre .1) (c .before .before .before .before .before .before .before .before .before .before .before .before .pre .2) _ _ (omega (arith, c .before .before .before .before .before .before .queued .ensures .2, c .before .before .before .before .before .before .before .before .before .before .before .before .pre .3)) (c .before .before .before .before .before .before .queued .ensures .3) (c .before .before .before .before .before .before .queued .ensures .0) (c .before .before .before .before .before .before .queued .ensures .1), begun-fresh _ _ _ (c .before .before .before .before .before .before .before .before .before .begun .ensures))
+
+same-length : tie.Need-same-length
+same-length c = search needs
+
+same-length-2 : tie.Need-same-length-2
+same-length-2 c = search needs
+
+returns : tie.Need-returns
+returns c = (first-structured (c .before .before .before .before .before .before .before .before .before .before .before .before .before .before .before .before .before .args .s) (c .before .before .before .before .before .before .before .before .before .before .before .before .before .before .before .before .before .args .store .now) _ _ _ _ (c .before .before .before .before .before .before .before .if1 .taken) (c .before .before .before .before .build-structure .ensures .0 _ _ (entered-by (c .before .before .before .before .before .before .before .before .before .before .before .before .before .before .before .before .before .args .s) (c .before .before .before .before .before .before .before .before .before .before .before .before .before .before .before .before .before .args .store .now) (c .before .before .before .before .before .before .before .before .before .before .before .before .before .before .before .before .before .args .clauses .now) (c .before .before .before .before .before .before .before .before .before .before .before .before .before .before .before .before .before .pre .0) _ (c .before .before .before .before .before .before .before .before .before .before .before .before .before .before .before .before .before .pre .1) _ (c .before .before .before .before .before .before .before .before .before .before .before .before .before .before .begun .ensures))), c .before .before .before .before .build-structure .ensures .1 ∙ c .before .before .before .before .before .before .before .before .before .before .before .queued .ensures .2, c .before .before .before .before .build-structure .ensures .2, c .before .before .before .before .build-structure .ensures .3)
+
+merge-structures-requires : tie.Need-merge-structures-requires
+merge-structures-requires c κs = refinable (c .before .before .before .before .before .before .before .before .before .before .before .before .before .args .s) (c .before .before .before .before .before .before .before .before .before .before .before .before .before .args .store .now) (c .before .before .before .before .before .before .before .before .before .before .before .before .before .args .clauses .now) (c .before .before .before .before .before .before .before .before .before .before .before .before .before .pre .0) _ (c .before .before .before .before .before .before .before .before .before .before .before .before .before .pre .1) (c .before .before .before .before .before .before .before .before .before .before .before .before .before .pre .2) _ _ (omega (arith, c .before .before .before .before .before .before .before .queued .ensures .2, c .before .before .before .before .before .before .before .before .before .before .before .before .before .pre .3)) (c .before .before .before .before .before .before .before .queued .ensures .3) (c .before .before .before .before .before .before .before .queued .ensures .0) (c .before .before .before .before .before .before .before .queued .ensures .1) _ (c .before .before .before .before .before .before .before .before .before .before .begun .ensures) (c .before .before .before .if1 .left)
+
+same-length-3 : tie.Need-same-length-3
+same-length-3 c = search needs
+
+same-length-4 : tie.Need-same-length-4
+same-length-4 c = search needs
+
+same-length-5 : tie.Need-same-length-5
+same-length-5 c = search needs
+
+returns-2 : tie.Need-returns-2
+returns-2 c = (refined-structured (c .before .before .before .before .before .before .before .before .before .before .before .before .before .before .before .before .before .before .before .args .s) (c .before .before .before .before .before .before .before .before .before .before .before .before .before .before .before .before .before .before .before .args .store .now) _ _ _ _ (c .before .before .before .before .before .before .before .before .before .if1 .left) (c .before .before .before .before .before .before .before .before .before .before .before .before .before .before .before .before .before .before .before .pre .2) (refines-by _ _ _ _ _ _ _ _ (c .before .before .before .before .before .before .before .before .before .before .before .before .before .before .before .before .begun .ensures) (c .before .before .before .before .before .merge-structures .ensures .0)), c .before .before .before .before .before .merge-structures .ensures .1 ∙ c .before .before .before .before .before .before .before .before .before .before .before .before .before .queued .ensures .2, c .before .before .before .before .before .merge-structures .ensures .2, c .before .before .before .before .before .merge-structures .ensures .3)
+
+pub structured-spec : {M : Type 1} → statement M
+structured-spec =
+    tie.close
+    (tie.spec
+    begun-requires
+    queued-requires
+    build-structure-requires
+    same-length
+    same-length-2
+    returns
+    merge-structures-requires
+    same-length-3
+    same-length-4
+    same-length-5
+    returns-2)

@@ -1,0 +1,75 @@
+-- `save_buckets` has saved the first i buckets. Assumes nothing.
+use Prim.Native.Nat.{_+_, _*_, _≤_, _-_}
+use native.Mathlib.Omega.{arith}
+use borrow.Author.Needs.{needs}
+use lib.ListN.{length, getD}
+use Rattle.refine_links.proofs.Slots.{slot-fact}
+use Rattle.encode_save.specs.Copies.{Saves}
+use Rattle.encode_save.proofs.Saving.{saves-start, saves-turn, saves-end}
+use Rattle.encode_save.proofs.save_buckets.Statement.{statement}
+use Rattle.encode_save.proofs.save_buckets.Tie as tie
+
+abbrev Inv-loop : tie.InvT-loop
+Inv-loop s work₀ used buckets i₀ work i = Saves s work₀ work buckets i × (i ≤ used)
+
+abbrev μ-loop : tie.MeasureT-loop
+μ-loop s work₀ used buckets i₀ work i = used - i
+
+loop-holds : tie.Need-loop-holds Inv-loop μ-loop
+loop-holds c = (saves-start _ _ _, omega arith)
+
+mul-copy : tie.Need-mul-copy Inv-loop μ-loop
+mul-copy c = search needs
+
+array-read-copy : tie.Need-array-read-copy Inv-loop μ-loop
+array-read-copy c = search needs
+
+cast-copy : tie.Need-cast-copy Inv-loop μ-loop
+cast-copy c = search needs
+
+mul-copy-2 : tie.Need-mul-copy-2 Inv-loop μ-loop
+mul-copy-2 c = let slot : 8 * getD (c .before .before .before .before .args .t3) (c .before .loop .i) 0 + 8 ≤ length (c .before .before .before .before .args .s .now) = slot-fact (λ b. 8 * b + 8 ≤ length (c .before .before .before .before .args .s .now)) (c .before .before .before .before .args .t3) _ _ (search needs) (c .loop-test .taken) (c .before .before .before .before .pre .2) in search needs
+
+mul-copy-3 : tie.Need-mul-copy-3 Inv-loop μ-loop
+mul-copy-3 c = search needs
+
+add-copy : tie.Need-add-copy Inv-loop μ-loop
+add-copy c = search needs
+
+copy-requires : tie.Need-copy-requires Inv-loop μ-loop
+copy-requires c κs = let slot : 8 * getD (c .before .before .before .before .before .args .t3) (c .before .before .loop .i) 0 + 8 ≤ length (c .before .before .before .before .before .args .s .now) = slot-fact (λ b. 8 * b + 8 ≤ length (c .before .before .before .before .before .args .s .now)) (c .before .before .before .before .before .args .t3) _ _ (search needs) (c .before .loop-test .taken) (c .before .before .before .before .before .pre .2) in (omega (arith, slot, c .before .before .loop .inv .0 .same-length), omega (arith, c .before .before .loop .inv .0 .same-length, c .before .before .before .before .before .pre .0, c .before .before .before .before .before .pre .1, c .before .loop-test .taken))
+
+add-i : tie.Need-add-i Inv-loop μ-loop
+add-i c = omega arith
+
+loop-less : tie.Need-loop-less Inv-loop μ-loop
+loop-less c = omega arith
+
+loop-again : tie.Need-loop-again Inv-loop μ-loop
+loop-again c = (saves-turn _ _ _ _ _ _ (omega (arith, c .before .before .before .before .loop-test .taken, c .before .before .before .before .before .before .before .before .pre .0)) (c .before .before .before .before .before .before .before .before .pre .1) (slot-fact (λ b. 8 * b + 8 ≤ length (c .before .before .before .before .before .before .before .before .args .s .now)) (c .before .before .before .before .before .before .before .before .args .t3) _ _ (search needs) (c .before .before .before .before .loop-test .taken) (c .before .before .before .before .before .before .before .before .pre .2)) (c .before .before .copy .ensures) (c .before .before .before .before .before .loop .inv .0), omega arith)
+
+same-length : tie.Need-same-length Inv-loop μ-loop
+same-length c = c .before .loop .inv .0 .same-length
+
+returns : tie.Need-returns Inv-loop μ-loop
+returns c = saves-end _ _ _ _ _ _ (c .before .loop .inv .1) (c .loop-test .left) (c .before .loop .inv .0)
+
+pub save-buckets-spec : {M : Type 1} → statement M
+save-buckets-spec =
+    tie.close
+    (tie.spec
+    Inv-loop
+    μ-loop
+    loop-holds
+    mul-copy
+    array-read-copy
+    cast-copy
+    mul-copy-2
+    mul-copy-3
+    add-copy
+    copy-requires
+    add-i
+    loop-less
+    loop-again
+    same-length
+    returns)

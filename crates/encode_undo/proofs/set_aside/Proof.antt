@@ -1,0 +1,45 @@
+-- `set_aside` copies the waiting records and saves the buckets. Assumes nothing.
+use native.Mathlib.Omega.{arith}
+use Rattle.rules.specs.Build.{buckets-of}
+use Rattle.encode_undo.proofs.Backs.{aside}
+use borrow.Author.Needs.{needs}
+use Rattle.encode_undo.proofs.set_aside.Statement.{statement}
+use Rattle.encode_undo.proofs.set_aside.Tie as tie
+
+mul-copy : tie.Need-mul-copy
+mul-copy c = search needs
+
+sub-copy : tie.Need-sub-copy
+sub-copy c = search needs
+
+mul-copy-2 : tie.Need-mul-copy-2
+mul-copy-2 c = search needs
+
+copy-requires : tie.Need-copy-requires
+copy-requires c κs = search needs
+
+cast-save-buckets : tie.Need-cast-save-buckets
+cast-save-buckets c = search needs
+
+save-buckets-requires : tie.Need-save-buckets-requires
+unfolding buckets-of
+save-buckets-requires c κs = (c .before .before .before .before .before .before .before .before .before .before .pre .4, omega (arith, c .before .before .before .before .before .before .before .before .before .before .pre .3, c .before .before .before .before .before .copy .kept), c .before .before .before .before .before .before .before .before .before .before .pre .5)
+
+same-length : tie.Need-same-length
+same-length c = search needs
+
+returns : tie.Need-returns
+returns c = aside (c .before .before .before .before .before .before .before .before .before .before .before .before .before .args .s) (c .before .before .before .before .before .before .before .before .before .before .before .before .before .args .store .now) (c .before .before .before .before .before .before .before .before .before .before .before .before .before .args .work .now) _ _ (c .before .before .before .before .before .before .before .before .before .before .before .before .before .args .n) (c .before .before .before .before .before .before .before .before .before .before .before .before .before .pre .0) (c .before .before .before .before .before .before .before .before .before .before .before .before .before .pre .1) (c .before .before .before .before .before .before .before .before .before .before .before .before .before .pre .2) (c .before .before .before .before .before .before .before .before .before .before .before .before .before .pre .3) (c .before .before .before .before .before .before .before .before .copy .ensures) (c .before .before .save-buckets .ensures)
+
+pub set-aside-spec : {M : Type 1} → statement M
+set-aside-spec =
+    tie.close
+    (tie.spec
+    mul-copy
+    sub-copy
+    mul-copy-2
+    copy-requires
+    cast-save-buckets
+    save-buckets-requires
+    same-length
+    returns)

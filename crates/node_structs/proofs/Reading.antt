@@ -1,0 +1,33 @@
+-- Link and maximum of a record by its words, and what they are among the records. Assumes nothing.
+use mathlib.Core.Path.{_≡_, refl, sym, ap, ap₂, _∙_}
+use mathlib.Core.Bool.{Bool, true, false, cond}
+use mathlib.Core.List.{List}
+use Prim.Native.Nat.{ℕ}
+use lib.Dec.{eqb}
+use borrow.Author.Tests.{eqb-true, eqb-false, eq-eqb, ne-eqb}
+use Rattle.rules.specs.Records.{Record, nodeAt, right-link}
+use Rattle.records.specs.Words.{field-at}
+use Rattle.records.specs.Carries.{Stores}
+use Rattle.records.proofs.Read.{maximum-is, right-none, right-some}
+use Rattle.node_structs.specs.Nodes.{node-of, read-node, node-among}
+
+module _ (s : List ℕ) (records n m x : ℕ) (em : m ≡ field-at s records n 4) (ex : x ≡ field-at s records n 0) where
+  by-kind : (b : Bool) → eqb x 2 ≡ b → node-of (cond b (field-at s records n 2) 0) m ≡ read-node s records n
+  unfolding read-node
+  by-kind b e =
+      ap₂ node-of (ap (λ (k : Bool). cond k (field-at s records n 2) 0) (sym e ∙ ap (λ (z : ℕ). eqb z 2) ex)) em
+
+  pub stored-none : (x ≡ 2 → ⊥) → node-of 0 m ≡ read-node s records n
+  stored-none other = by-kind false (ne-eqb x 2 other)
+
+  pub stored-some : x ≡ 2 → (y : ℕ) → y ≡ field-at s records n 2 → node-of y m ≡ read-node s records n
+  stored-some joins y ey = ap (λ (z : ℕ). node-of z m) ey ∙ by-kind true (eq-eqb x 2 joins)
+
+-- where the records lie in the words
+pub among : (s : List ℕ) (records : ℕ) (rs : List Record) → Stores s records rs → (n : ℕ) → read-node s records n ≡ node-among rs n
+unfolding read-node node-among
+among s records rs h n = ap₂ node-of (go (eqb (field-at s records n 0) 2) refl) (maximum-is s records rs h n)
+  where
+    go : (b : Bool) → eqb (field-at s records n 0) 2 ≡ b → cond b (field-at s records n 2) 0 ≡ right-link (nodeAt rs n .kind)
+    go true e = right-some s records rs h n (field-at s records n 0) refl (eqb-true (field-at s records n 0) 2 e) (field-at s records n 2) refl
+    go false e = right-none s records rs h n (field-at s records n 0) refl (eqb-false (field-at s records n 0) 2 e)

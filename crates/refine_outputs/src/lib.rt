@@ -1,0 +1,78 @@
+// The further clauses of outputs that were defined before old buckets were linked anew. Every promise is the rule itself,
+// carried out as far as there is room.
+ghost use mathlib.Core.Path.{_≡_};
+ghost use mathlib.Core.List.{List, map, reverse};
+ghost use Prim.Native.Nat.{_≤_};
+ghost use lib.ListN.{length, take};
+ghost use Rattle.rules.specs.Lists.{in-turn};
+ghost use Rattle.rules.specs.Records.{Record, outputs};
+ghost use Rattle.rules.specs.Totalizer.{Arena};
+ghost use Rattle.rules.specs.Refinement.{former-half, extend-bucket};
+ghost use Rattle.records.specs.Carries.{St, st, Carries, Steps};
+ghost use Rattle.refine_outputs.specs.Old.{extend-each, extend-at};
+use records::Marks;
+
+// The further clauses of record i where it is an output of the node. A find for each output asked for, two for each clause.
+fn extend_record(s: &mut [u32], c: &mut [i32], m: Marks, node: u32, most: u32, i: usize) -> Marks
+    ensures { λ z. ⌜ Steps (st (now (s .entry)) (now (c .entry)) m) (st (now (s .exit)) (now (c .exit)) z) (extend-at node most i) ⌝ }
+{
+    if m.full {
+        return m;
+    }
+    let n = m.records;
+    if records::field(s, n, i, 0) != 4 {
+        return m;
+    }
+    if records::field(s, n, i, 1) != node {
+        return m;
+    }
+    let v = records::field(s, n, i, 2);
+    let o = records::field(s, n, i, 3);
+    totalizer_define::extend(s, c, m, node, most, v, o)
+}
+
+// The further clauses of each output of the node among the old records, in record order: those of its pairs whose b exceeds
+// `most`. A pass over the old records.
+pub fn extend_bucket(
+    s: &mut [u32],
+    c: &mut [i32],
+    m: Marks,
+    old: usize,
+    node: u32,
+    most: u32,
+) -> Marks
+    ensures { λ z. ⌜ ((e : St) (t : Arena) → Carries e (st (now (s .entry)) (now (c .entry)) m) t → old ≤ length (t .records) →
+        Carries e (st (now (s .exit)) (now (c .exit)) z) (extend-each node most (take old (t .records)) t)) ⌝ }
+{
+    let mut n = m;
+    let mut i: usize = 0;
+    while i < old {
+        n = extend_record(s, c, n, node, most, i);
+        i += 1;
+    }
+    n
+}
+
+// The same for the used buckets, from the last to the first. A pass over the old records for each bucket, at most 20.
+pub fn extend_buckets(
+    s: &mut [u32],
+    c: &mut [i32],
+    m: Marks,
+    old: usize,
+    buckets: [u32; 20],
+    used: usize,
+    halves: [u32; 20],
+) -> Marks
+    requires { ⌜ used ≤ 20 ⌝ }
+    ensures { λ z. ⌜ ((e : St) (t : Arena) (before : List Record) → Carries e (st (now (s .entry)) (now (c .entry)) m) t → old ≤ length (t .records) →
+        outputs (take old (t .records)) ≡ outputs before → take used halves ≡ map (former-half before) (take used buckets) →
+        Carries e (st (now (s .exit)) (now (c .exit)) z) (in-turn (extend-bucket before) t (reverse (take used buckets)))) ⌝ }
+{
+    let mut n = m;
+    let mut i = used;
+    while 0 < i {
+        i -= 1;
+        n = extend_bucket(s, c, n, old, buckets[i], halves[i]);
+    }
+    n
+}

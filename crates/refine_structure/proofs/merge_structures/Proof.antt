@@ -1,0 +1,92 @@
+-- `merge_structures` makes the tower of the new powers and renews the old buckets over it. Assumes nothing.
+use mathlib.Core.Path.{_∙_}
+use native.Mathlib.Omega.{arith}
+use Rattle.refine_structure.proofs.Merging.{spans, within, counted, positive, queued, tares-small, merge-done}
+use borrow.Author.Needs.{needs}
+use Rattle.refine_structure.proofs.merge_structures.Statement.{statement}
+use Rattle.refine_structure.proofs.merge_structures.Tie as tie
+
+top-bit-requires : tie.Need-top-bit-requires
+top-bit-requires c κs = search needs
+
+top-bit-requires-2 : tie.Need-top-bit-requires-2
+top-bit-requires-2 c κs = search needs
+
+sub-many : tie.Need-sub-many
+sub-many c = counted _ _ _ _ _ _ (c .before .before .before .before .pre) _ _ (c .before .top-bit .ensures .0) (c .top-bit2 .ensures .0) .0
+
+cast-new-tares : tie.Need-cast-new-tares
+cast-new-tares c = search needs
+
+cast-new-tares-2 : tie.Need-cast-new-tares-2
+cast-new-tares-2 c = search needs
+
+new-tares-requires : tie.Need-new-tares-requires
+new-tares-requires c κs = (counted _ _ _ _ _ _ (c .before .before .before .before .before .before .pre) _ _ (c .before .before .before .top-bit .ensures .0) (c .before .before .top-bit2 .ensures .0) .2, counted _ _ _ _ _ _ (c .before .before .before .before .before .before .pre) _ _ (c .before .before .before .top-bit .ensures .0) (c .before .before .top-bit2 .ensures .0) .3)
+
+cast-used : tie.Need-cast-used
+cast-used c = search needs
+
+former-halves-requires : tie.Need-former-halves-requires
+former-halves-requires c κs = omega (arith, within _ _ _ _ _ _ (c .before .before .before .before .before .before .before .before .before .before .pre) .1)
+
+segment-requires : tie.Need-segment-requires
+segment-requires c κs = (queued _ _ _ _ _ _ (c .before .before .before .before .before .before .before .before .before .before .before .before .before .pre), positive _ _ _ _ _ _ (c .before .before .before .before .before .before .before .before .before .before .before .before .before .pre), spans _ _ _ _ _ _ (c .before .before .before .before .before .before .before .before .before .before .before .before .before .pre), tares-small _ _ _ _ _ _ (c .before .before .before .before .before .before .before .before .before .before .before .before .before .pre) _ (counted _ _ _ _ _ _ (c .before .before .before .before .before .before .before .before .before .before .before .before .before .pre) _ _ (c .before .before .before .before .before .before .before .before .before .before .top-bit .ensures .0) (c .before .before .before .before .before .before .before .before .before .top-bit2 .ensures .0) .1) _ (c .before .before .before .before .before .before .new-tares .ensures))
+
+highest-requires : tie.Need-highest-requires
+highest-requires c κs = omega (arith, c .before .before .before .before .before .segment .ensures .2, within _ _ _ _ _ _ (c .before .before .before .before .before .before .before .before .before .before .before .before .before .before .before .before .before .before .before .pre) .1)
+
+renew-requires : tie.Need-renew-requires
+renew-requires c κs = omega (arith, within _ _ _ _ _ _ (c .before .before .before .before .before .before .before .before .before .before .before .before .before .before .before .before .before .before .before .before .before .before .pre) .1)
+
+sub-append-buckets : tie.Need-sub-append-buckets
+sub-append-buckets c = omega (arith, c .before .before .before .before .before .before .before .before .before .before .before .before .before .before .segment .ensures .2, within _ _ _ _ _ _ (c .before .before .before .before .before .before .before .before .before .before .before .before .before .before .before .before .before .before .before .before .before .before .before .before .before .before .before .before .pre) .1)
+
+append-buckets-requires : tie.Need-append-buckets-requires
+append-buckets-requires c κs = (omega (arith, c .before .before .before .before .before .before .before .before .before .before .before .before .before .before .segment .ensures .2, within _ _ _ _ _ _ (c .before .before .before .before .before .before .before .before .before .before .before .before .before .before .before .before .before .before .before .before .before .before .before .before .before .before .before .before .pre) .1), omega (arith, c .before .before .before .before .before .before .before .before .before .before .before .before .before .before .segment .ensures .2, within _ _ _ _ _ _ (c .before .before .before .before .before .before .before .before .before .before .before .before .before .before .before .before .before .before .before .before .before .before .before .before .before .before .before .before .pre) .1, c .before .before .before .before .before .before .before .before .before .before .before .before .before .before .segment .ensures .1, c .before .before .before .before .before .before .before .before .before .before .before .before .before .before .before .before .before .before .before .before .before .before .before .before .before .before .before .before .pre .long))
+
+add-t17 : tie.Need-add-t17
+add-t17 c = omega (arith, counted _ _ _ _ _ _ (c .before .before .before .before .before .before .before .before .before .before .before .before .before .before .before .before .before .before .before .before .before .before .before .before .before .before .before .before .before .before .pre) _ _ (c .before .before .before .before .before .before .before .before .before .before .before .before .before .before .before .before .before .before .before .before .before .before .before .before .before .before .before .top-bit .ensures .0) (c .before .before .before .before .before .before .before .before .before .before .before .before .before .before .before .before .before .before .before .before .before .before .before .before .before .before .top-bit2 .ensures .0) .2)
+
+cast-t18 : tie.Need-cast-t18
+cast-t18 c = omega (arith, c .before .before .before .before .before .before .before .before .before .before .before .before .before .before .before .before .before .segment .ensures .2, within _ _ _ _ _ _ (c .before .before .before .before .before .before .before .before .before .before .before .before .before .before .before .before .before .before .before .before .before .before .before .before .before .before .before .before .before .before .before .pre) .1)
+
+add-t35 : tie.Need-add-t35
+add-t35 c = omega (arith, c .before .before .before .before .before .before .before .before .before .before .before .before .before .before .before .before .before .before .segment .ensures .2, within _ _ _ _ _ _ (c .before .before .before .before .before .before .before .before .before .before .before .before .before .before .before .before .before .before .before .before .before .before .before .before .before .before .before .before .before .before .before .before .pre) .1)
+
+same-length : tie.Need-same-length
+same-length c = c .before .before .before .before .before .before .before .before .before .renew .kept .0 ∙ c .before .before .before .before .before .before .before .before .before .before .before .before .before .before .before .before .before .before .segment .kept .1 .0
+
+same-length-2 : tie.Need-same-length-2
+same-length-2 c = search needs
+
+same-length-3 : tie.Need-same-length-3
+same-length-3 c = c .before .before .before .before .before .before .before .before .before .before .before .before .before .before .before .before .before .before .segment .ensures .1
+
+returns : tie.Need-returns
+returns c = (merge-done _ _ _ _ _ _ (c .before .before .before .before .before .before .before .before .before .before .before .before .before .before .before .before .before .before .before .before .before .before .before .before .before .before .before .before .before .before .before .before .pre) _ (counted _ _ _ _ _ _ (c .before .before .before .before .before .before .before .before .before .before .before .before .before .before .before .before .before .before .before .before .before .before .before .before .before .before .before .before .before .before .before .before .pre) _ _ (c .before .before .before .before .before .before .before .before .before .before .before .before .before .before .before .before .before .before .before .before .before .before .before .before .before .before .before .before .before .top-bit .ensures .0) (c .before .before .before .before .before .before .before .before .before .before .before .before .before .before .before .before .before .before .before .before .before .before .before .before .before .before .before .before .top-bit2 .ensures .0) .1) _ (c .before .before .before .before .before .before .before .before .before .before .before .before .before .before .before .before .before .before .before .before .before .before .before .before .before .new-tares .ensures) _ (c .before .before .before .before .before .before .before .before .before .before .before .before .before .before .before .before .before .before .before .before .before .former-halves .ensures .0) _ _ _ (c .before .before .before .before .before .before .before .before .before .before .before .before .before .before .before .before .before .before .segment .ensures .0) (c .before .before .before .before .before .before .before .before .before .before .before .before .before .before .before .before .before .before .segment .ensures .1) (c .before .before .before .before .before .before .before .before .before .before .before .before .before .before .before .before .before .before .segment .ensures .2) _ (c .before .before .before .before .before .before .before .before .before .before .before .before .highest .ensures) _ (c .before .before .before .before .before .before .before .before .before .renew .ensures) _ _ (c .before .before .before .append-buckets .ensures), c .before .before .before .before .before .before .before .before .before .before .before .before .before .before .before .before .before .before .segment .ensures .1, c .before .before .before .before .before .before .before .before .before .before .before .before .before .before .before .before .before .before .segment .ensures .3, omega (arith, counted _ _ _ _ _ _ (c .before .before .before .before .before .before .before .before .before .before .before .before .before .before .before .before .before .before .before .before .before .before .before .before .before .before .before .before .before .before .before .before .pre) _ _ (c .before .before .before .before .before .before .before .before .before .before .before .before .before .before .before .before .before .before .before .before .before .before .before .before .before .before .before .before .before .top-bit .ensures .0) (c .before .before .before .before .before .before .before .before .before .before .before .before .before .before .before .before .before .before .before .before .before .before .before .before .before .before .before .before .top-bit2 .ensures .0) .2), omega (arith, c .before .before .before .before .before .before .before .before .before .before .before .before .before .before .before .before .before .before .segment .ensures .2, within _ _ _ _ _ _ (c .before .before .before .before .before .before .before .before .before .before .before .before .before .before .before .before .before .before .before .before .before .before .before .before .before .before .before .before .before .before .before .before .pre) .1))
+
+pub merge-structures-spec : {M : Type 1} → statement M
+merge-structures-spec =
+    tie.close
+    (tie.spec
+    top-bit-requires
+    top-bit-requires-2
+    sub-many
+    cast-new-tares
+    cast-new-tares-2
+    new-tares-requires
+    cast-used
+    former-halves-requires
+    segment-requires
+    highest-requires
+    renew-requires
+    sub-append-buckets
+    append-buckets-requires
+    add-t17
+    cast-t18
+    add-t35
+    same-length
+    same-length-2
+    same-length-3
+    returns)
