@@ -1,4 +1,4 @@
--- What a call answers over the state of a mirror, held in the binding's structs. Assumes nothing.
+-- What a call answers over the state of a mirror, held in the binding's structs.
 use mathlib.Core.Path.{_≡_, refl, ap, _∙_}
 use mathlib.Core.List.{List}
 use Prim.Native.Nat.{ℕ}

@@ -1,4 +1,4 @@
--- What each way of a reading call's answer holds. Assumes nothing.
+-- What each way of a reading call's answer holds.
 use mathlib.Core.Path.{_≡_, refl}
 use Prim.Native.Nat.{ℕ}
 use Rattle.rules.specs.declared.Precision.{Precision}

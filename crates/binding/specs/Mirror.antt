@@ -1,4 +1,4 @@
--- The state and the answers as the binding's structs hold them. Assumes nothing.
+-- The state and the answers as the binding's structs hold them.
 use mathlib.Core.Bool.{cond}
 use Rattle.rules.specs.declared.State as rules
 use Rattle.rules.specs.declared.Started as rules-started

@@ -1,5 +1,4 @@
 -- Any two results that the promise of a public function allows are equal; those of an append, where the array is filled from the front.
--- Assumes nothing.
 use mathlib.Core.Path.{_≡_, sym, _∙_}
 use mathlib.Core.List.{List}
 use Prim.Native.Nat.{ℕ}

@@ -1,4 +1,4 @@
--- A padded list with its first free slot filled. Assumes nothing.
+-- A padded list with its first free slot filled.
 use mathlib.Core.Path.{_≡_, refl, sym, ap, _∙_}
 use mathlib.Core.List.{List, [], _∷_, _++_, append-assoc}
 use Prim.Native.Nat.{ℕ, zero, suc, _+_, _-_, _≤_, _<_}

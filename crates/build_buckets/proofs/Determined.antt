@@ -1,5 +1,5 @@
 -- Any two results that the promise of `buckets_over` allows are equal, wherever the arena that it leads to fits, and so are the buckets
--- made; they agree on the full mark and the queue's words everywhere. Assumes nothing.
+-- made; they agree on the full mark and the queue's words everywhere.
 use mathlib.Core.Path.{_≡_, sym, ap, _∙_}
 use mathlib.Core.List.{List, []}
 use Prim.Native.Nat.{_-_}

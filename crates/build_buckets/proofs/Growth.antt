@@ -1,4 +1,4 @@
--- Making buckets only grows what is needed. Assumes nothing.
+-- Making buckets only grows what is needed.
 use mathlib.Core.Path.{_≡_, refl}
 use mathlib.Core.Bool.{Bool, true, false}
 use mathlib.Core.List.{List, [], _∷_}

@@ -1,4 +1,4 @@
--- The tower of a first build is document 01's first build. Assumes nothing.
+-- The tower of a first build is document 01's first build.
 use mathlib.Core.Path.{_≡_, refl, sym, ap, ap₂, _∙_, subst}
 use mathlib.Core.List.{List, [], _++_}
 use Prim.Native.Nat.{ℕ, _+_, _-_, _^_, _≤_, _<_}

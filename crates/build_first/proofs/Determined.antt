@@ -1,5 +1,5 @@
 -- Any two results that the promise of `build_structure` allows are the same build wherever it fits, word for word, with the same tares,
--- buckets and queue; they agree on the full mark everywhere. Assumes nothing.
+-- buckets and queue; they agree on the full mark everywhere.
 use mathlib.Core.Path.{_≡_}
 use mathlib.Core.List.{List}
 use borrow.Fn.Kinds.{Dens, resT, endedOf}

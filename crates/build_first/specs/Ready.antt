@@ -1,4 +1,4 @@
--- What a first build is handed: a well formed build whose largest weight reaches the divisor, its queue in the work words. Assumes nothing.
+-- What a first build is handed: a well formed build whose largest weight reaches the divisor, its queue in the work words.
 use mathlib.Core.Path.{_≡_}
 use mathlib.Core.List.{List}
 use Prim.Native.Nat.{ℕ, _≤_, _<_}

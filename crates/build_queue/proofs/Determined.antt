@@ -1,5 +1,5 @@
 -- Any two results that the promise of a public function allows are the same weight or the same queue: of `gather` with its members,
--- wherever the arena that it leads to fits, and the same full mark everywhere. Assumes nothing.
+-- wherever the arena that it leads to fits, and the same full mark everywhere.
 use mathlib.Core.Path.{_≡_, sym, _∙_}
 use mathlib.Core.List.{List, _++_, map}
 use Prim.Native.Nat.{ℕ, _^_, _≤_, _<_}

@@ -1,4 +1,4 @@
--- The run at the front of a sorted line, and what stands behind it. Assumes nothing.
+-- The run at the front of a sorted line, and what stands behind it.
 use mathlib.Core.Path.{_≡_, refl, sym, ap, ap₂, _∙_, subst}
 use mathlib.Core.Logic.{_≢_}
 use mathlib.Core.Bool.{Bool, true, false, not, cond}

@@ -1,4 +1,4 @@
--- The queue's run over the work words: growth, its turns, and buckets that no weight reaches. Assumes nothing.
+-- The queue's run over the work words: growth, its turns, and buckets that no weight reaches.
 use mathlib.Core.Path.{_≡_, refl, sym, ap, _∙_, subst}
 use mathlib.Core.Bool.{Bool, true, false}
 use mathlib.Core.List.{List, [], _∷_, _++_, map}

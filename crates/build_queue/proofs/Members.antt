@@ -1,4 +1,4 @@
--- Members in the work words: where they stand, and what putting one behind its bucket leaves. Assumes nothing.
+-- Members in the work words: where they stand, and what putting one behind its bucket leaves.
 use mathlib.Core.Path.{_≡_, refl, sym, ap, ap₂, _∙_}
 use mathlib.Core.Logic.{_≢_, _⊎_, inl, inr}
 use mathlib.Core.List.{List, [], _∷_, _++_}

@@ -1,4 +1,4 @@
--- One step of the queue over the work words: what it names, what it leaves of the queue, and that the buckets stay small. Assumes nothing.
+-- One step of the queue over the work words: what it names, what it leaves of the queue, and that the buckets stay small.
 use mathlib.Core.Path.{_≡_, refl, sym, ap, ap₂, _∙_, subst}
 use mathlib.Core.Logic.{_≢_, _⊎_, inl, inr}
 use mathlib.Core.List.{List, [], _∷_, _++_, map}

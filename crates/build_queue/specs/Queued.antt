@@ -1,4 +1,4 @@
--- The queue of a build in the work words: what its steps need, what they keep, and the rules that they carry out. Assumes nothing.
+-- The queue of a build in the work words: what its steps need, what they keep, and the rules that they carry out.
 use mathlib.Core.Path.{_≡_}
 use mathlib.Core.List.{List}
 use Prim.Native.Nat.{ℕ, _+_, _*_, _^_, _≤_, _<_}

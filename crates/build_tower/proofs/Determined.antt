@@ -1,5 +1,5 @@
 -- Any two results that the promise of a public function allows are the same queue, and so are the buckets of `tower`, wherever the arena that
--- it leads to fits; they agree on the full mark everywhere. Assumes nothing.
+-- it leads to fits; they agree on the full mark everywhere.
 use mathlib.Core.Path.{_≡_, sym, ap, _∙_}
 use mathlib.Core.List.{List, _++_, map}
 use Prim.Native.Nat.{ℕ, _^_, _<_}

@@ -1,4 +1,4 @@
--- Numbers taken, the queue run, the buckets made: together the rule of a tower. Assumes nothing.
+-- Numbers taken, the queue run, the buckets made: together the rule of a tower.
 use mathlib.Core.Path.{_≡_, refl, sym, ap, ap₂, _∙_, subst}
 use mathlib.Core.Bool.{Bool, true, false}
 use mathlib.Core.List.{List, [], _∷_}

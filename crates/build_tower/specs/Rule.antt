@@ -1,4 +1,4 @@
--- What a first build and a refinement have in common: the queue run, and buckets over what it gathers. Assumes nothing.
+-- What a first build and a refinement have in common: the queue run, and buckets over what it gathers.
 use mathlib.Core.List.{List, []}
 use Prim.Native.Nat.{ℕ, _+_}
 use lib.ListN.{drop}

@@ -1,4 +1,4 @@
--- Any two results that the promise of a public function allows are equal. Assumes nothing.
+-- Any two results that the promise of a public function allows are equal.
 use mathlib.Core.Path.{_≡_, sym, _∙_}
 use borrow.Fn.Kinds.{Dens, resT, endedOf}
 use denote.Triple.Clauses.{AtExit}

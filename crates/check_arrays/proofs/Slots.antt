@@ -1,4 +1,4 @@
--- The tests of the used slots as tests of places. Assumes nothing.
+-- The tests of the used slots as tests of places.
 use mathlib.Core.Path.{_≡_, refl, sym, ap, ap₂, _∙_}
 use mathlib.Core.Bool.{Bool, true, false, not, _&&_, _||_}
 use mathlib.Core.List.{List, [], _∷_, _++_}

@@ -1,4 +1,4 @@
--- A walk from place 0 on stops at the first place that fails a test; the tests of lists as tests of places. Assumes nothing.
+-- A walk from place 0 on stops at the first place that fails a test; the tests of lists as tests of places.
 use mathlib.Core.Path.{_≡_, refl, sym, ap, ap₂, _∙_}
 use mathlib.Core.Bool.{Bool, true, false, _&&_, _||_, false≢true}
 use mathlib.Core.List.{List, [], _∷_}

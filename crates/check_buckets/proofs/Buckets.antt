@@ -1,4 +1,4 @@
--- The tests of buckets by kind, and along their list. Assumes nothing.
+-- The tests of buckets by kind, and along their list.
 use mathlib.Core.Path.{_≡_, refl, sym, ap, _∙_}
 use mathlib.Core.Bool.{Bool, true, false, not, _&&_, false≢true}
 use mathlib.Core.List.{List, [], _∷_}

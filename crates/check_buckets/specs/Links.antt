@@ -1,4 +1,4 @@
--- What is asked of one bucket. Assumes nothing.
+-- What is asked of one bucket.
 use mathlib.Core.Bool.{Bool}
 use mathlib.Core.List.{List, [], _∷_}
 use Prim.Native.Nat.{ℕ}

@@ -1,4 +1,4 @@
--- The walks over inputs. Assumes nothing.
+-- The walks over inputs.
 use mathlib.Core.Path.{_≡_, refl, sym, ap, _∙_}
 use mathlib.Core.Bool.{Bool, true, false, not, _&&_, _||_}
 use mathlib.Core.List.{List, [], _∷_, _++_, map}

@@ -1,4 +1,4 @@
--- What the walks over inputs ask. Assumes nothing.
+-- What the walks over inputs ask.
 use mathlib.Core.Bool.{Bool, false}
 use mathlib.Core.List.{List}
 use Prim.Native.Nat.{ℕ}

@@ -1,4 +1,4 @@
--- Any two results that the promise of a public function allows are equal, where the records stand in the words. Assumes nothing.
+-- Any two results that the promise of a public function allows are equal, where the records stand in the words.
 use mathlib.Core.Path.{_≡_, sym, _∙_}
 use Prim.Native.Nat.{_*_, _≤_}
 use lib.ListN.{length}

@@ -1,4 +1,4 @@
--- Eight words are a record's image exactly if the test of their kind says so. Assumes nothing.
+-- Eight words are a record's image exactly if the test of their kind says so.
 use mathlib.Core.Path.{_≡_, refl, sym, ap, _∙_}
 use mathlib.Core.Bool.{Bool, true, false, not, cond, _&&_, false≢true}
 use mathlib.Core.List.{List, [], _∷_}

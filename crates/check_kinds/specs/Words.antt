@@ -1,4 +1,4 @@
--- Which eight words are the image of a record. Assumes nothing.
+-- Which eight words are the image of a record.
 use mathlib.Core.Bool.{Bool, false, not, cond, _&&_}
 use mathlib.Core.List.{List}
 use Prim.Native.Nat.{ℕ, _%_}

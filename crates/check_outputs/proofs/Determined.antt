@@ -1,4 +1,4 @@
--- Any two results that the promise of a public function allows are equal, where the words are those of records. Assumes nothing.
+-- Any two results that the promise of a public function allows are equal, where the words are those of records.
 use mathlib.Core.Path.{_≡_, sym, _∙_}
 use mathlib.Core.List.{List}
 use borrow.Fn.Kinds.{Dens, resT, endedOf}

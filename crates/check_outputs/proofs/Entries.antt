@@ -1,4 +1,4 @@
--- The waiting entries' costs, one record at a time. Assumes nothing.
+-- The waiting entries' costs, one record at a time.
 use mathlib.Core.Path.{_≡_, refl, sym, ap, ap₂, _∙_}
 use mathlib.Core.Bool.{Bool, true, false}
 use mathlib.Core.List.{List, _∷_}

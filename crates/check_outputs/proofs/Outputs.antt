@@ -1,4 +1,4 @@
--- The walks over outputs, one record at a time. Assumes nothing.
+-- The walks over outputs, one record at a time.
 use mathlib.Core.Path.{_≡_, refl, sym, ap, _∙_}
 use mathlib.Core.Bool.{Bool, true, false, not, _&&_, _||_}
 use mathlib.Core.List.{List, [], _∷_}

@@ -1,4 +1,4 @@
--- What one record adds to a walk over outputs or waiting entries. Assumes nothing.
+-- What one record adds to a walk over outputs or waiting entries.
 use mathlib.Core.Bool.{Bool, true, false, _&&_}
 use mathlib.Core.List.{List, map}
 use Prim.Native.Nat.{ℕ, zero, suc, _+_, _-_}

@@ -1,4 +1,4 @@
--- What the words of a record say of it, test by test. Assumes nothing.
+-- What the words of a record say of it, test by test.
 use mathlib.Core.Path.{_≡_, refl, sym, ap, ap₂, _∙_}
 use mathlib.Core.Bool.{Bool, true, false, not, cond, _&&_, _||_}
 use mathlib.Core.List.{List, [], _∷_}

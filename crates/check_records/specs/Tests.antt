@@ -1,4 +1,4 @@
--- The tests of one record and of its place, which together decide most clauses of well formed. Assumes nothing.
+-- The tests of one record and of its place, which together decide most clauses of well formed.
 use mathlib.Core.Bool.{Bool, true, not, cond, _&&_}
 use mathlib.Core.List.{List}
 use Prim.Native.Nat.{ℕ, _+_, max}

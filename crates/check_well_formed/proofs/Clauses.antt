@@ -1,4 +1,4 @@
--- The pass over the records, with the outputs' and the tares' own tests, decides the clauses of records, outputs and numbers. Assumes nothing.
+-- The pass over the records, with the outputs' and the tares' own tests, decides the clauses of records, outputs and numbers.
 use mathlib.Core.Path.{_≡_, refl, sym, ap, ap₂, _∙_}
 use mathlib.Core.Bool.{Bool, true, false, not, cond, _&&_}
 use mathlib.Core.List.{List, [], _∷_, map}

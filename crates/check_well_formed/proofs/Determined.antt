@@ -1,4 +1,4 @@
--- Any two results that the promise of `well_formed` allows are equal. Assumes nothing.
+-- Any two results that the promise of `well_formed` allows are equal.
 use mathlib.Core.Path.{sym, _∙_}
 use Rattle.numbers.proofs.Determined.{One-result}
 use Rattle.check_well_formed.proofs.well_formed.Kinds as well-formed-kinds

@@ -1,4 +1,4 @@
--- Rising numbers are distinct, and distinct numbers in two parts. Assumes nothing.
+-- Rising numbers are distinct, and distinct numbers in two parts.
 use mathlib.Core.Path.{_≡_, refl, ap, _∙_}
 use mathlib.Core.Bool.{Bool, true, false, not, _&&_, _||_}
 use mathlib.Core.List.{List, [], _∷_, _++_, map}

@@ -1,4 +1,4 @@
--- What one pass over the records decides. Assumes nothing.
+-- What one pass over the records decides.
 use mathlib.Core.Path.{_≡_, refl, sym, ap, ap₂, _∙_}
 use mathlib.Core.Bool.{Bool, true, false, cond, _&&_, false≢true}
 use mathlib.Core.List.{List, [], _∷_}

@@ -1,4 +1,4 @@
--- The groups together are the clauses of well formed. Assumes nothing.
+-- The groups together are the clauses of well formed.
 use mathlib.Core.Path.{_≡_, refl, sym, _∙_}
 use mathlib.Core.Bool.{Bool, true, false, cond, _&&_}
 use mathlib.Core.List.{List, [], _∷_, _++_}

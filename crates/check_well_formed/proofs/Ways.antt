@@ -1,4 +1,4 @@
--- One law for each way through the tests of the check. Assumes nothing.
+-- One law for each way through the tests of the check.
 use mathlib.Core.Path.{_≡_, refl, sym, ap, ap₂, _∙_}
 use mathlib.Core.Bool.{Bool, true, false, not, _&&_}
 use mathlib.Core.List.{List, [], _∷_, map}

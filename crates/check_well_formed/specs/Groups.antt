@@ -1,4 +1,4 @@
--- The clauses of well formed in the groups in which they are tested. Assumes nothing.
+-- The clauses of well formed in the groups in which they are tested.
 use mathlib.Core.Path.{_≡_}
 use mathlib.Core.Bool.{Bool, true, cond, _&&_}
 use mathlib.Core.List.{List, [], _∷_}

@@ -1,4 +1,4 @@
--- A well formed build carries itself: its nodes and outputs, with what waits seen as free words. Assumes nothing.
+-- A well formed build carries itself: its nodes and outputs, with what waits seen as free words.
 use mathlib.Core.Path.{_≡_, refl, sym, ap, _∙_, subst}
 use mathlib.Core.List.{List, [], _++_, map}
 use Prim.Native.Nat.{ℕ, _+_, _*_, _-_, _≤_, _<_}

@@ -1,5 +1,5 @@
 -- Any two results that the promise of a public function allows are equal; those of `made`, where the waiting records are last. And two
--- structures that name the same build name the same. Assumes nothing.
+-- structures that name the same build name the same.
 use mathlib.Core.Path.{_≡_, sym, _∙_}
 use mathlib.Core.Bool.{true, not}
 use mathlib.Core.List.{List, _++_, map}

@@ -1,4 +1,4 @@
--- Where the waiting records begin. Assumes nothing.
+-- Where the waiting records begin.
 use mathlib.Core.Path.{_≡_, sym, ap, _∙_}
 use mathlib.Core.Bool.{true, false, not, true≢false}
 use mathlib.Core.List.{List, [], _∷_, _++_, map}

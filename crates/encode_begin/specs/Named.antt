@@ -1,4 +1,4 @@
--- The marks with which an encode begins, and what a build or a refinement names. Assumes nothing.
+-- The marks with which an encode begins, and what a build or a refinement names.
 use mathlib.Core.Path.{_≡_}
 use mathlib.Core.Bool.{false}
 use mathlib.Core.List.{List}

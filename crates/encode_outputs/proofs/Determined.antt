@@ -1,5 +1,5 @@
 -- Any two results that the promise of a public function allows are equal: the values of a range, those of `all_defined` where the words
--- store records, those of a step wherever the arena that it leads to fits; steps agree on the full mark everywhere. Assumes nothing.
+-- store records, those of a step wherever the arena that it leads to fits; steps agree on the full mark everywhere.
 use mathlib.Core.Path.{_≡_, sym, ap, _∙_}
 use mathlib.Core.List.{List}
 use Prim.Native.Nat.{ℕ, zero, suc, _≤_}

@@ -1,4 +1,4 @@
--- Outputs and then what waits, over a build whose root, tares and queue are named. Assumes nothing.
+-- Outputs and then what waits, over a build whose root, tares and queue are named.
 use mathlib.Core.Path.{_≡_, refl, ap, ap₂, _∙_, subst}
 use mathlib.Core.Logic.{_⊎_, inl, inr}
 use mathlib.Core.List.{List, map}

@@ -1,4 +1,4 @@
--- The values of a range, outputs found in turn, entries taken in turn. Assumes nothing.
+-- The values of a range, outputs found in turn, entries taken in turn.
 use mathlib.Core.Path.{_≡_, refl, sym, ap, ap₂, _∙_}
 use mathlib.Core.Bool.{Bool, true, false, not, _&&_}
 use mathlib.Core.List.{List, [], _∷_, map, append-assoc, append-nil}

@@ -1,4 +1,4 @@
--- Entries by their words: a node at a, its weight at b, the next ones `apart` words further on. Assumes nothing.
+-- Entries by their words: a node at a, its weight at b, the next ones `apart` words further on.
 use mathlib.Core.List.{List, [], _∷_, _++_, map}
 use Prim.Native.Nat.{ℕ, zero, suc, _+_}
 use lib.ListN.{getD}

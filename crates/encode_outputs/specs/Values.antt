@@ -1,4 +1,4 @@
--- The root outputs of a range. Assumes nothing.
+-- The root outputs of a range.
 use mathlib.Core.Bool.{Bool, not}
 use mathlib.Core.List.{List}
 use Prim.Native.Nat.{ℕ, suc, _-_, _/_, _^_, min}

@@ -1,5 +1,5 @@
 -- Any two results that the promise of `reach` allows are the same build wherever it fits, word for word, with the same tares and buckets; they
--- agree on the full mark, and on what was set aside, everywhere. Assumes nothing.
+-- agree on the full mark, and on what was set aside, everywhere.
 use mathlib.Core.Path.{_≡_, sym, _∙_}
 use mathlib.Core.Logic.{_⊎_, inl, inr}
 use mathlib.Core.List.{List}

@@ -1,4 +1,4 @@
--- What is carried over an entry changed in place is reached over the entry itself; the queue by its words. Assumes nothing.
+-- What is carried over an entry changed in place is reached over the entry itself; the queue by its words.
 use mathlib.Core.Path.{_≡_, refl, sym, ap, ap₂, _∙_, subst}
 use mathlib.Core.List.{List, [], _∷_, map}
 use Prim.Native.Nat.{ℕ, zero, suc, _+_, _*_, _-_, _≤_, _<_}

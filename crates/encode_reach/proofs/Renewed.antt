@@ -1,4 +1,4 @@
--- What was built or refined anew is finished and reached. Assumes nothing.
+-- What was built or refined anew is finished and reached.
 use mathlib.Core.Path.{_≡_, refl, sym, ap, _∙_, subst}
 use mathlib.Core.List.{List, [], _∷_, _++_, append-nil}
 use Prim.Native.Nat.{ℕ, zero, suc, _+_, _-_, _≤_}

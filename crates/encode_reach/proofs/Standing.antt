@@ -1,4 +1,4 @@
--- What stands is reached with its own tares, buckets and queue. Assumes nothing.
+-- What stands is reached with its own tares, buckets and queue.
 use mathlib.Core.Path.{_≡_, sym, ap, _∙_}
 use mathlib.Core.Logic.{_≢_}
 use mathlib.Core.List.{List, _++_, map}

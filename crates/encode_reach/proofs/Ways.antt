@@ -1,4 +1,4 @@
--- The three ways of an encode: the first build, a refinement, what stands. Assumes nothing.
+-- The three ways of an encode: the first build, a refinement, what stands.
 use mathlib.Core.Path.{_≡_, refl, sym, ap, ap₂, _∙_, subst}
 use mathlib.Core.Logic.{_≢_}
 use mathlib.Core.Bool.{Bool, true, false, not, _&&_, true≢false}

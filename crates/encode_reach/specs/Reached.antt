@@ -1,4 +1,4 @@
--- What an encode reaches, over the memory it was lent. Assumes nothing.
+-- What an encode reaches, over the memory it was lent.
 use mathlib.Core.Path.{_≡_}
 use mathlib.Core.Bool.{true}
 use mathlib.Core.List.{List}

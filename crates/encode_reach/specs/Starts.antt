@@ -1,4 +1,4 @@
--- What an encode that has something to do is handed. Assumes nothing.
+-- What an encode that has something to do is handed.
 use mathlib.Core.Path.{_≡_}
 use mathlib.Core.List.{List}
 use Prim.Native.Nat.{ℕ, _<_}

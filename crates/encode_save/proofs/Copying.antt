@@ -1,4 +1,4 @@
--- Words copied: where they come from, what is kept, and the loop that copies them. Assumes nothing.
+-- Words copied: where they come from, what is kept, and the loop that copies them.
 use mathlib.Core.Path.{_≡_, sym, ap, ap₂, _∙_}
 use mathlib.Core.List.{List, _++_, append-assoc}
 use Prim.Native.Nat.{ℕ, suc, _+_, _-_, _≤_, _<_}

@@ -1,5 +1,5 @@
 -- Any two results that the promise of a public function allows are equal, every lent word among them; those of `restore_buckets`, where
--- the work words are the saved ones of some store. Assumes nothing.
+-- the work words are the saved ones of some store.
 use mathlib.Core.Path.{_≡_, refl, sym, _∙_, subst}
 use mathlib.Core.Bool.{Bool, true, false}
 use mathlib.Core.List.{List}

@@ -1,4 +1,4 @@
--- Buckets set aside one after the other, and put back. Assumes nothing.
+-- Buckets set aside one after the other, and put back.
 use mathlib.Core.Path.{_≡_, refl, sym, ap, _∙_, subst}
 use mathlib.Core.Logic.{_≢_}
 use mathlib.Core.Bool.{Bool, true, false}

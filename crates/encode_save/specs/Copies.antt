@@ -1,4 +1,4 @@
--- What copying words, setting buckets aside and putting them back promise, word by word. Assumes nothing.
+-- What copying words, setting buckets aside and putting them back promise, word by word.
 use mathlib.Core.Path.{_≡_}
 use mathlib.Core.List.{List, _++_}
 use Prim.Native.Nat.{ℕ, _+_, _*_, _/_, _≤_, _<_}

@@ -1,4 +1,4 @@
--- What is set aside is what stands, and what is put back is what stood. Assumes nothing.
+-- What is set aside is what stands, and what is put back is what stood.
 use mathlib.Core.Path.{_≡_, refl, sym, ap, ap₂, _∙_}
 use mathlib.Core.List.{List, _++_}
 use Prim.Native.Nat.{ℕ, zero, suc, _+_, _*_, _-_, _/_, _≤_, _<_}

@@ -1,5 +1,5 @@
 -- Any two results that the promise of a public function allows are equal: the words set aside, and the used words put back where words set
--- aside are at hand. Assumes nothing.
+-- aside are at hand.
 use mathlib.Core.Path.{_≡_, sym, _∙_}
 use mathlib.Core.List.{List}
 use Prim.Native.Nat.{ℕ, _+_, _*_, _-_, _<_}

@@ -1,4 +1,4 @@
--- What an encode sets aside, so that it can be put back. Assumes nothing.
+-- What an encode sets aside, so that it can be put back.
 use mathlib.Core.Path.{_≡_}
 use mathlib.Core.List.{List}
 use Prim.Native.Nat.{ℕ, _*_, _-_, _/_, _≤_, _<_}

@@ -1,4 +1,4 @@
--- The answers of enforce, one law for each way. Assumes nothing.
+-- The answers of enforce, one law for each way.
 use mathlib.Core.Path.{_≡_, refl, sym, ap, ap₂, _∙_, subst}
 use mathlib.Core.Bool.{Bool, true, false, cond, _&&_}
 use mathlib.Core.Option.{Option, none, some}

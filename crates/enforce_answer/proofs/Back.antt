@@ -1,4 +1,4 @@
--- Tares laid from the back stand highest power first. Assumes nothing.
+-- Tares laid from the back stand highest power first.
 use mathlib.Core.Path.{_≡_, refl, sym, ap, ap₂, _∙_, subst}
 use mathlib.Core.Bool.{Bool, true, false, cond}
 use mathlib.Core.List.{List, [], _∷_, _++_, append-nil, append-assoc}

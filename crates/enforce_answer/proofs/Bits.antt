@@ -1,4 +1,4 @@
--- How many tares the set bits have. Assumes nothing.
+-- How many tares the set bits have.
 use mathlib.Core.Path.{_≡_, refl, ap, _∙_}
 use mathlib.Core.Bool.{Bool, true, false, cond}
 use mathlib.Core.List.{List, [], _∷_}

@@ -1,4 +1,4 @@
--- Any two results that the promise of `answer` allows are equal. Assumes nothing.
+-- Any two results that the promise of `answer` allows are equal.
 use mathlib.Core.Path.{sym, _∙_}
 use Rattle.numbers.proofs.Determined.{One-result}
 use Rattle.enforce_answer.proofs.answer.Kinds as answer-kinds

@@ -1,4 +1,4 @@
--- An answer laid over the front of the scratch, or refused for want of room. Assumes nothing.
+-- An answer laid over the front of the scratch, or refused for want of room.
 use mathlib.Core.Path.{_≡_, refl, sym, ap, _∙_}
 use mathlib.Core.Bool.{Bool, true, false, false≢true}
 use mathlib.Core.Option.{Option, none, some}

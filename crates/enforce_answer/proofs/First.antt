@@ -1,4 +1,4 @@
--- The root among the used buckets, and nodes and outputs once what waits is left out. Assumes nothing.
+-- The root among the used buckets, and nodes and outputs once what waits is left out.
 use mathlib.Core.Path.{_≡_, refl, sym, ap, _∙_}
 use mathlib.Core.Bool.{not}
 use mathlib.Core.List.{List, [], _∷_, _++_, map}

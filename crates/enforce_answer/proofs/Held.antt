@@ -1,4 +1,4 @@
--- The answers of enforce over a state and a store that hold a build. Assumes nothing.
+-- The answers of enforce over a state and a store that hold a build.
 use mathlib.Core.Path.{_≡_, refl, sym}
 use mathlib.Core.Bool.{Bool, true, false, _&&_}
 use mathlib.Core.Option.{some}

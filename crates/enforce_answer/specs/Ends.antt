@@ -1,4 +1,4 @@
--- What enforce answers, in counts. Assumes nothing.
+-- What enforce answers, in counts.
 use mathlib.Core.Path.{_≡_}
 use mathlib.Core.Option.{Option}
 use mathlib.Core.List.{List}

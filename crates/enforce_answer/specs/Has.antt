@@ -1,4 +1,4 @@
--- What an answer reads of a build in words. Assumes nothing.
+-- What an answer reads of a build in words.
 use mathlib.Core.Path.{_≡_}
 use mathlib.Core.List.{List}
 use Prim.Native.Nat.{ℕ}

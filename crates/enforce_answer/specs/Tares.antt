@@ -1,4 +1,4 @@
--- Tares laid from the back, the lowest power last. Assumes nothing.
+-- Tares laid from the back, the lowest power last.
 use mathlib.Core.Bool.{cond}
 use mathlib.Core.List.{List, [], _∷_}
 use Prim.Native.Nat.{ℕ, zero, suc, _+_, _-_, _/_, _%_}

@@ -1,4 +1,4 @@
--- What an answer of an output and tares admits, over any build whose clauses mean what its outputs say and whose root counts the inputs. Assumes nothing.
+-- What an answer of an output and tares admits, over any build whose clauses mean what its outputs say and whose root counts the inputs.
 use mathlib.Core.Path.{_≡_, refl, ap₂, _∙_, subst}
 use mathlib.Core.Logic.{_≢_, _↔_}
 use mathlib.Core.Bool.{Bool, true, false}

@@ -1,4 +1,4 @@
--- The buckets count what the queue put into them, and their tares. Assumes nothing.
+-- The buckets count what the queue put into them, and their tares.
 use mathlib.Core.Path.{_≡_, refl, sym, ap, ap₂, _∙_, subst}
 use mathlib.Core.Bool.{Bool, true, false}
 use mathlib.Core.List.{List, [], _∷_, _++_, map}

@@ -1,5 +1,4 @@
 -- Demand 3 from words: any run of calls on lent slices, as the rules' calls say it, with the clause words in the buffer read as clauses.
--- Assumes nothing.
 use mathlib.Core.Path.{_≡_, refl, sym, ap, ap₂, _∙_, subst}
 use mathlib.Core.Logic.{_↔_}
 use mathlib.Core.Bool.{Bool, true, false, not, cond, _&&_}

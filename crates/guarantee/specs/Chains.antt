@@ -1,4 +1,4 @@
--- The chain of buckets: the root's value is what all buckets count, in units of the lowest one, divided by the weight of the top one. Assumes nothing.
+-- The chain of buckets: the root's value is what all buckets count, in units of the lowest one, divided by the weight of the top one.
 use mathlib.Core.Path.{_≡_, refl, sym, ap, _∙_}
 use mathlib.Core.Bool.{Bool, true, false}
 use mathlib.Core.List.{List, [], _∷_, _++_, map}

@@ -1,4 +1,4 @@
--- Defining outputs keeps the clauses meaning what the outputs say, whichever clauses are asked of the earlier ones. Assumes nothing.
+-- Defining outputs keeps the clauses meaning what the outputs say, whichever clauses are asked of the earlier ones.
 use mathlib.Core.Path.{_≡_, refl, sym, ap, _∙_, subst}
 use mathlib.Core.Logic.{inl, inr}
 use mathlib.Core.Bool.{Bool, true, false, cond, _&&_}

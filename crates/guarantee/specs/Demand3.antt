@@ -1,4 +1,4 @@
--- Demand 3: what a bound's answer admits, over any accepted calls, also after more encoding and after refinement. Assumes nothing.
+-- Demand 3: what a bound's answer admits, over any accepted calls, also after more encoding and after refinement.
 use mathlib.Core.Path.{_≡_, refl, sym, ap, ap₂, _∙_, subst}
 use mathlib.Core.Logic.{_≢_, _↔_}
 use mathlib.Core.Bool.{Bool, true, false, cond, _&&_}

@@ -1,4 +1,4 @@
--- Refinement's last step: each output defined earlier gets the clauses of its further pairs, and in the end all clauses are there. Assumes nothing.
+-- Refinement's last step: each output defined earlier gets the clauses of its further pairs, and in the end all clauses are there.
 use mathlib.Core.Path.{_≡_, refl, sym, ap, ap₂, _∙_, subst}
 use mathlib.Core.Logic.{_≢_, _⊎_, inl, inr}
 use mathlib.Core.Bool.{Bool, true, false, cond, false≢true}

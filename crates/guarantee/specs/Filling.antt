@@ -1,4 +1,4 @@
--- What a queue that started with empty buckets put into them, in any power up to its divisor's. Assumes nothing.
+-- What a queue that started with empty buckets put into them, in any power up to its divisor's.
 use mathlib.Core.Path.{_≡_, refl, sym, ap, ap₂, _∙_, subst}
 use mathlib.Core.List.{List, [], _∷_, map}
 use Prim.Native.Nat.{ℕ, zero, suc, _+_, _*_, _-_, _/_, _^_, _≤_, _<_}

@@ -1,4 +1,4 @@
--- More nodes and more outputs leave what was claimed, and its clauses, as they were. Assumes nothing.
+-- More nodes and more outputs leave what was claimed, and its clauses, as they were.
 use mathlib.Core.Path.{_≡_, refl, sym, ap, ap₂, _∙_, subst}
 use mathlib.Core.Logic.{_≢_}
 use mathlib.Core.Bool.{Bool, true}

@@ -1,4 +1,4 @@
--- Demand 3 at document 01's worked cases, computed, so its hypotheses can be met. Assumes nothing.
+-- Demand 3 at document 01's worked cases, computed, so its hypotheses can be met.
 use mathlib.Core.Path.{refl}
 use mathlib.Core.Logic.{_↔_}
 use mathlib.Core.Bool.{true}

@@ -1,4 +1,4 @@
--- What nodes that were appended, or buckets that were brought up to date, leave of values, claims and clauses. Assumes nothing.
+-- What nodes that were appended, or buckets that were brought up to date, leave of values, claims and clauses.
 use mathlib.Core.Path.{_≡_, refl, sym, ap, ap₂, _∙_, subst}
 use mathlib.Core.Logic.{_≢_}
 use mathlib.Core.Bool.{Bool, true}

@@ -1,4 +1,4 @@
--- The leaves that a build adds are tares. Assumes nothing.
+-- The leaves that a build adds are tares.
 use mathlib.Core.Path.{_≡_, subst}
 use mathlib.Core.Bool.{Bool, true, false}
 use mathlib.Core.List.{List, [], _∷_, map}

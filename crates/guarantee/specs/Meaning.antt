@@ -1,5 +1,5 @@
 -- What clauses mean that are derived and complete, in any order and with repeats, whoever wrote them: each claimed output is true where its
--- node's value reaches it, and giving each output that meaning satisfies them. Assumes nothing.
+-- node's value reaches it, and giving each output that meaning satisfies them.
 use mathlib.Core.Path.{_≡_, refl, sym, ap, ap₂, _∙_}
 use mathlib.Core.Logic.{_≢_}
 use mathlib.Core.Bool.{Bool, true, false, cond, _&&_}

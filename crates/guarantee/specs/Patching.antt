@@ -1,4 +1,4 @@
--- Buckets brought up to date: their outputs keep the clauses of their former pairs. Assumes nothing.
+-- Buckets brought up to date: their outputs keep the clauses of their former pairs.
 use mathlib.Core.Path.{_≡_, refl, sym, ap, _∙_, subst}
 use mathlib.Core.Logic.{_⊎_, inl, inr}
 use mathlib.Core.Bool.{Bool, true, false}

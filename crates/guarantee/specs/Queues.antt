@@ -1,4 +1,4 @@
--- The queue's law: for every power, what the buckets from there up count plus what waits is always the same. Assumes nothing.
+-- The queue's law: for every power, what the buckets from there up count plus what waits is always the same.
 use mathlib.Core.Path.{_≡_, refl, sym, ap, ap₂, _∙_}
 use mathlib.Core.Bool.{Bool, true, false}
 use mathlib.Core.List.{List, [], _∷_, _++_, map}

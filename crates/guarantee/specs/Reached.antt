@@ -1,4 +1,4 @@
--- Every world that accepted calls reach counts its inputs. Assumes nothing.
+-- Every world that accepted calls reach counts its inputs.
 use mathlib.Core.Path.{_≡_, refl, sym, ap, ap₂, _∙_, subst}
 use mathlib.Core.Logic.{_≢_}
 use mathlib.Core.Bool.{Bool, false, not, _&&_}

@@ -1,4 +1,4 @@
--- Refinement whole: the refined build weighs the inputs at the finer divisor, and its clauses mean its outputs. Assumes nothing.
+-- Refinement whole: the refined build weighs the inputs at the finer divisor, and its clauses mean its outputs.
 use mathlib.Core.Path.{_≡_, refl, sym, ap, ap₂, _∙_, subst}
 use mathlib.Core.Logic.{_≢_}
 use mathlib.Core.Bool.{Bool, true, false}

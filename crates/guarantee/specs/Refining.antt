@@ -1,4 +1,4 @@
--- A refined build weighs the inputs at the finer divisor. Assumes nothing.
+-- A refined build weighs the inputs at the finer divisor.
 use mathlib.Core.Path.{_≡_, refl, sym, ap, _∙_}
 use mathlib.Core.Bool.{Bool, true}
 use mathlib.Core.List.{List, [], _∷_, _++_, map, append-assoc}

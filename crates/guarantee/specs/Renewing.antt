@@ -1,4 +1,4 @@
--- A refinement keeps what a build weighs and what its clauses mean. Assumes nothing.
+-- A refinement keeps what a build weighs and what its clauses mean.
 use mathlib.Core.Path.{_≡_, refl, sym, ap, _∙_, subst}
 use mathlib.Core.Logic.{_≢_, _⊎_, inl}
 use mathlib.Core.Bool.{Bool, true}

@@ -1,4 +1,4 @@
--- The root's value: the sum of all parts, divided by the output weight, rounded down. Left-out tares make no difference. Assumes nothing.
+-- The root's value: the sum of all parts, divided by the output weight, rounded down. Left-out tares make no difference.
 use mathlib.Core.Path.{_≡_, sym, ap, ap₂, _∙_, subst}
 use mathlib.Core.Bool.{Bool}
 use mathlib.Core.List.{List, [], _∷_, map}

@@ -1,4 +1,4 @@
--- A merged list counts what its members count; nodes made since some place are read off the records at the end. Assumes nothing.
+-- A merged list counts what its members count; nodes made since some place are read off the records at the end.
 use mathlib.Core.Path.{_≡_, refl, sym, ap, ap₂, _∙_}
 use mathlib.Core.Bool.{Bool, true, false}
 use mathlib.Core.List.{List, [], _∷_, _++_, map, append-assoc, append-nil}

@@ -1,4 +1,4 @@
--- The tares of the set bits of a number: where they hold they weigh at least that much, and they can be set to weigh just that. Assumes nothing.
+-- The tares of the set bits of a number: where they hold they weigh at least that much, and they can be set to weigh just that.
 use mathlib.Core.Path.{_≡_, refl, sym, ap, ap₂, _∙_}
 use mathlib.Core.Logic.{_≢_}
 use mathlib.Core.Bool.{Bool, true, false, cond}

@@ -1,4 +1,4 @@
--- A first build, a refinement and encode's outputs keep the clauses meaning what the outputs say. Assumes nothing.
+-- A first build, a refinement and encode's outputs keep the clauses meaning what the outputs say.
 use mathlib.Core.Path.{_≡_, refl, sym, ap, _∙_, subst}
 use mathlib.Core.Logic.{_≢_}
 use mathlib.Core.Bool.{Bool, true, false, cond}

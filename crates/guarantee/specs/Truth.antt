@@ -1,4 +1,4 @@
--- What a literal, a clause and a list of clauses say under an assignment of the variables. Assumes nothing.
+-- What a literal, a clause and a list of clauses say under an assignment of the variables.
 use mathlib.Core.Path.{_≡_, refl, sym, ap, _∙_, subst}
 use mathlib.Core.Logic.{_⊎_, inl, inr}
 use mathlib.Core.Bool.{Bool, true, false, not, _||_, true≢false}

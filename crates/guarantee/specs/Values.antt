@@ -1,4 +1,4 @@
--- The value of a node, over nodes that are by the totalizer rule. Assumes nothing.
+-- The value of a node, over nodes that are by the totalizer rule.
 use mathlib.Core.Path.{_≡_, refl, sym, ap, ap₂, _∙_}
 use mathlib.Core.Bool.{Bool, true, false}
 use Prim.Native.Nat.{ℕ, zero, suc, _+_, _≤_, _<_, max}

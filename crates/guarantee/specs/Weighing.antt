@@ -1,4 +1,4 @@
--- What a build weighs: its buckets the inputs' weights divided by the built divisor, what waits the rest. Assumes nothing.
+-- What a build weighs: its buckets the inputs' weights divided by the built divisor, what waits the rest.
 use mathlib.Core.Path.{_≡_, refl, sym, ap, _∙_, subst}
 use mathlib.Core.Bool.{true}
 use mathlib.Core.List.{List, [], _∷_, map}

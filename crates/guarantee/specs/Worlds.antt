@@ -1,5 +1,5 @@
 -- Worlds that accepted calls reach: a start, then any sets and encodes. Each is well formed, its clauses mean its outputs and it weighs its
--- inputs. Refused calls, enforce, coarse and the precision calls leave a world as it is. Assumes nothing.
+-- inputs. Refused calls, enforce, coarse and the precision calls leave a world as it is.
 use mathlib.Core.Path.{_≡_, refl, sym, ap, ap₂, _∙_, subst}
 use mathlib.Core.Logic.{_≢_}
 use mathlib.Core.Bool.{Bool, true, false, not, _&&_}

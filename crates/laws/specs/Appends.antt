@@ -1,5 +1,5 @@
 -- Encode appends: what it makes does not depend on the clauses that stand already. So a history that lists all its clauses and the
--- calls, which list those of one call, meet. Assumes nothing.
+-- calls, which list those of one call, meet.
 use mathlib.Core.Path.{_≡_, refl, _∙_, ap, ap₂}
 use mathlib.Core.Bool.{Bool, true, false}
 use mathlib.Core.List.{List, [], _∷_, _++_, map, reverse, append-assoc}

@@ -1,4 +1,4 @@
--- The clauses of well formed that speak of records, each as the fact that it tests, both ways. Assumes nothing.
+-- The clauses of well formed that speak of records, each as the fact that it tests, both ways.
 use mathlib.Core.Path.{_≡_, refl, sym, _∙_, ap}
 use mathlib.Core.Logic.{_≢_, _⊎_, inl, inr}
 use mathlib.Core.Bool.{Bool, true, false, not, _&&_, _||_, false≢true}

@@ -1,4 +1,4 @@
--- Old buckets brought up to date from the lowest to the root: each linked to the one below, by the rule again, no maximum less. Assumes nothing.
+-- Old buckets brought up to date from the lowest to the root: each linked to the one below, by the rule again, no maximum less.
 use mathlib.Core.Path.{_≡_, refl, sym, _∙_, ap, ap₂, subst}
 use mathlib.Core.Logic.{_≢_}
 use mathlib.Core.Bool.{Bool, true, false}

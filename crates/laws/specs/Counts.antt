@@ -1,4 +1,4 @@
--- How often a number stands in a list, against the tests of document 01. Assumes nothing.
+-- How often a number stands in a list, against the tests of document 01.
 use mathlib.Core.Path.{_≡_, refl, ap}
 use mathlib.Core.Bool.{Bool, true, false, not, cond, _||_, false≢true}
 use mathlib.Core.List.{List, [], _∷_}

@@ -1,4 +1,4 @@
--- Defining changes no node, and its fuel is enough. Assumes nothing.
+-- Defining changes no node, and its fuel is enough.
 use mathlib.Core.Path.{_≡_, refl, sym, _∙_, ap}
 use mathlib.Core.Bool.{Bool, true}
 use mathlib.Core.List.{List, [], _∷_, _++_, map}

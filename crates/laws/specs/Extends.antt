@@ -1,4 +1,4 @@
--- Outputs defined one after another, and old outputs extended: all that well formed asks of outputs and numbers is kept. Assumes nothing.
+-- Outputs defined one after another, and old outputs extended: all that well formed asks of outputs and numbers is kept.
 use mathlib.Core.Path.{_≡_, sym, _∙_, ap, subst}
 use mathlib.Core.Bool.{Bool, true}
 use mathlib.Core.List.{List, [], _∷_}

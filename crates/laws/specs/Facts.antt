@@ -1,4 +1,4 @@
--- Facts of lists: of every element, of sums, of how often a number stands in one. Assumes nothing.
+-- Facts of lists: of every element, of sums, of how often a number stands in one.
 use mathlib.Core.Path.{_≡_, refl, sym, ap, ap₂}
 use mathlib.Core.Logic.{_≢_}
 use mathlib.Core.Bool.{Bool, true, false, not, cond, _&&_, _||_, false≢true}

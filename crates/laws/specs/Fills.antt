@@ -1,4 +1,4 @@
--- How the queue begins, and that it fills the bucket of its largest weight. Assumes nothing.
+-- How the queue begins, and that it fills the bucket of its largest weight.
 use mathlib.Core.Path.{_≡_, refl, ap}
 use mathlib.Core.Logic.{_⊎_, inl, inr}
 use mathlib.Core.Bool.{Bool, true, false, cond}

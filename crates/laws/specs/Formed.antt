@@ -1,4 +1,4 @@
--- What well formed says, as plain facts: the clauses of its paragraph as fields, over nodes by place. Assumes nothing.
+-- What well formed says, as plain facts: the clauses of its paragraph as fields, over nodes by place.
 use mathlib.Core.Path.{_≡_}
 use mathlib.Core.Logic.{_≢_, _⊎_}
 use mathlib.Core.Bool.{Bool, true, false, not}

@@ -1,4 +1,4 @@
--- What the queue keeps while it fills the buckets. Assumes nothing.
+-- What the queue keeps while it fills the buckets.
 use mathlib.Core.Path.{_≡_, refl, _∙_, ap}
 use mathlib.Core.Bool.{Bool, true, cond}
 use mathlib.Core.List.{List, [], _∷_, _++_, map}

@@ -1,4 +1,4 @@
--- Nodes appended to sound records leave them sound. Assumes nothing.
+-- Nodes appended to sound records leave them sound.
 use mathlib.Core.Path.{_≡_, refl, sym, _∙_, ap, ap₂, subst}
 use mathlib.Core.Logic.{_≢_, _⊎_}
 use mathlib.Core.Bool.{Bool, true, false, false≢true}

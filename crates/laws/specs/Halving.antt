@@ -1,4 +1,4 @@
--- A halved side: what it counts and what it asks. Assumes nothing.
+-- A halved side: what it counts and what it asks.
 use mathlib.Core.Bool.{Bool, true, false}
 use Prim.Native.Nat.{ℕ, _≤_}
 use native.Mathlib.Omega.{arith}

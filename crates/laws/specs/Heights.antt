@@ -1,4 +1,4 @@
--- Heights fall along links, so there are more records than any node is high. Assumes nothing.
+-- Heights fall along links, so there are more records than any node is high.
 use mathlib.Core.Path.{_≡_, refl, sym, _∙_, ap, subst}
 use mathlib.Core.Logic.{_≢_}
 use mathlib.Core.Bool.{Bool, true, false}

@@ -1,4 +1,4 @@
--- Records and their words under append, patch and truncation; a list padded to a length. Assumes nothing.
+-- Records and their words under append, patch and truncation; a list padded to a length.
 use mathlib.Core.Path.{_≡_, refl, sym, _∙_, ap, ap₂}
 use mathlib.Core.List.{List, [], _∷_, _++_, append-nil, append-assoc}
 use Prim.Native.Nat.{ℕ, zero, suc, _+_, _*_, _-_, _≤_, _<_}

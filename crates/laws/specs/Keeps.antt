@@ -1,4 +1,4 @@
--- What well formed asks of outputs, numbers and waiting entries, as nodes change: kept where nodes stay or their maxima grow. Assumes nothing.
+-- What well formed asks of outputs, numbers and waiting entries, as nodes change: kept where nodes stay or their maxima grow.
 use mathlib.Core.Path.{_≡_, refl, sym, _∙_, ap, ap₂, subst}
 use mathlib.Core.Logic.{_≢_}
 use mathlib.Core.Bool.{Bool, true, false}

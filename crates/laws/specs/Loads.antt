@@ -1,4 +1,4 @@
--- What a bucket's members and the waiting entries that reach its power weigh together never grows. Assumes nothing.
+-- What a bucket's members and the waiting entries that reach its power weigh together never grows.
 use mathlib.Core.Path.{_≡_, refl, _∙_, ap}
 use mathlib.Core.Bool.{Bool, true, false, cond}
 use mathlib.Core.List.{List, [], _∷_, _++_, map}

@@ -1,4 +1,4 @@
--- Two or more inputs leave more than one lone member, unless that is a join of its own. Assumes nothing.
+-- Two or more inputs leave more than one lone member, unless that is a join of its own.
 use mathlib.Core.Path.{_≡_, refl, sym, _∙_, ap, subst}
 use mathlib.Core.Logic.{_⊎_, inl, inr}
 use mathlib.Core.Bool.{Bool, true, false}

@@ -1,4 +1,4 @@
--- Merging a list: a node whose maximum is the sum of the members', a new join where there are two or more. Assumes nothing.
+-- Merging a list: a node whose maximum is the sum of the members', a new join where there are two or more.
 use mathlib.Core.Path.{_≡_, refl, sym, _∙_, ap, ap₂, subst}
 use mathlib.Core.Logic.{inl}
 use mathlib.Core.Bool.{Bool, true, false}

@@ -1,4 +1,4 @@
--- What defining adds: outputs of joins, at values 1 to the maximum, not defined before, with the next numbers. Assumes nothing.
+-- What defining adds: outputs of joins, at values 1 to the maximum, not defined before, with the next numbers.
 use mathlib.Core.Path.{_≡_, refl, sym, _∙_, ap, subst}
 use mathlib.Core.Logic.{_≢_}
 use mathlib.Core.Bool.{Bool, true, false, false≢true}

@@ -1,4 +1,4 @@
--- Old buckets linked over new ones: the records are sound again and the two chains are one. Assumes nothing.
+-- Old buckets linked over new ones: the records are sound again and the two chains are one.
 use mathlib.Core.Path.{_≡_, refl, sym, _∙_, ap, subst}
 use mathlib.Core.Logic.{_⊎_, inl, inr}
 use mathlib.Core.Bool.{Bool, true, false, _&&_, _||_, false≢true}

@@ -1,4 +1,4 @@
--- As many numbers as there are below n, each of those among them: no other stands in the list. Assumes nothing.
+-- As many numbers as there are below n, each of those among them: no other stands in the list.
 use mathlib.Core.Path.{_≡_, refl, sym}
 use mathlib.Core.Logic.{_≢_}
 use mathlib.Core.Bool.{Bool, true, false}

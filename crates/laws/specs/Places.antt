@@ -1,4 +1,4 @@
--- What stands at a place after records were appended or one was set. Assumes nothing.
+-- What stands at a place after records were appended or one was set.
 use mathlib.Core.Path.{_≡_, refl, sym, _∙_, ap, fun-ext}
 use mathlib.Core.Logic.{_≢_}
 use mathlib.Core.Bool.{Bool, true, false, cond, _&&_, false≢true}

@@ -1,4 +1,4 @@
--- Digits against powers of two. Assumes nothing.
+-- Digits against powers of two.
 use mathlib.Core.Path.{_≡_, refl, sym, _∙_, ap}
 use mathlib.Core.Bool.{Bool, true, false}
 use Prim.Native.Nat.{ℕ, zero, suc, _*_, _-_, _/_, _^_, _≤_, _<_, max}

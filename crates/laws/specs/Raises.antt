@@ -1,4 +1,4 @@
--- A bucket raised over those that stand: joined with the one below, over a dummy, or merged of two members. Assumes nothing.
+-- A bucket raised over those that stand: joined with the one below, over a dummy, or merged of two members.
 use mathlib.Core.Path.{_≡_, refl, sym, _∙_, ap}
 use mathlib.Core.Logic.{inl, inr}
 use mathlib.Core.Bool.{Bool, true, false, false≢true}

@@ -1,4 +1,4 @@
--- The clauses of well formed give its facts. Assumes nothing.
+-- The clauses of well formed give its facts.
 use mathlib.Core.Path.{_≡_, refl, sym, _∙_, ap, subst}
 use mathlib.Core.Logic.{_≢_}
 use mathlib.Core.Bool.{Bool, true, false, not, cond}

@@ -1,4 +1,4 @@
--- The queue as a list: largest weights, runs of equal weight, what a step leaves, and fuel that is enough. Assumes nothing.
+-- The queue as a list: largest weights, runs of equal weight, what a step leaves, and fuel that is enough.
 use mathlib.Core.Path.{_≡_, refl, sym, _∙_}
 use mathlib.Core.Logic.{_≢_}
 use mathlib.Core.Bool.{Bool, true, false, not, cond}

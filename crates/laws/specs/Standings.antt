@@ -1,4 +1,4 @@
--- A chain of buckets that stands among the records, and what it keeps as they grow. Assumes nothing.
+-- A chain of buckets that stands among the records, and what it keeps as they grow.
 use mathlib.Core.Path.{_≡_, refl, sym, _∙_, ap}
 use mathlib.Core.Logic.{_≢_, _⊎_, inl, inr}
 use mathlib.Core.Bool.{Bool, true, false, _&&_, false≢true}

@@ -1,4 +1,4 @@
--- The buckets of a first build: all but the top one with a tare. Assumes nothing.
+-- The buckets of a first build: all but the top one with a tare.
 use mathlib.Core.Path.{_≡_, refl, sym, _∙_, ap, subst}
 use mathlib.Core.Logic.{_≢_, _⊎_, inl, inr}
 use mathlib.Core.Bool.{Bool, true, false, false≢true}

@@ -1,4 +1,4 @@
--- Buckets built one over another: each with a tare, and the top one of a first build without. Assumes nothing.
+-- Buckets built one over another: each with a tare, and the top one of a first build without.
 use mathlib.Core.Path.{_≡_, refl, sym, ap}
 use mathlib.Core.Bool.{Bool, true, false, false≢true}
 use mathlib.Core.List.{List, [], _∷_, _++_, map}

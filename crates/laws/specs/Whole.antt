@@ -1,4 +1,4 @@
--- Well formed as the test of document 01 and as plain facts, each giving the other; the state of a build that was read. Assumes nothing.
+-- Well formed as the test of document 01 and as plain facts, each giving the other; the state of a build that was read.
 use mathlib.Core.Path.{_≡_, refl, sym, _∙_, ap, ap₂, subst}
 use mathlib.Core.Bool.{true}
 use mathlib.Core.List.{List}

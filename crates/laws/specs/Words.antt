@@ -1,4 +1,4 @@
--- Words, records and builds name each other. Assumes nothing.
+-- Words, records and builds name each other.
 use mathlib.Core.Path.{_≡_, refl, sym, _∙_, ap, ap₂}
 use mathlib.Core.Logic.{_≢_}
 use mathlib.Core.Bool.{Bool, true, false, not, cond, _&&_, false≢true}

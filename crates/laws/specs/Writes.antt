@@ -1,4 +1,4 @@
--- The facts of well formed give its clauses; at most 19 tares and 20 buckets. Assumes nothing.
+-- The facts of well formed give its clauses; at most 19 tares and 20 buckets.
 use mathlib.Core.Path.{_≡_, refl, sym, _∙_, ap, ap₂, subst}
 use mathlib.Core.Logic.{_≢_}
 use mathlib.Core.Bool.{Bool, true, false, not, cond, _&&_}

@@ -1,4 +1,4 @@
--- A call of `node_at` from a walk by hand: what it asks, what is kept of a slice lent on, and what it says. Assumes nothing.
+-- A call of `node_at` from a walk by hand: what it asks, what is kept of a slice lent on, and what it says.
 use mathlib.Core.Path.{_≡_, refl, ap}
 use Prim.Native.Nat.{ℕ, _<_, _^_}
 use mathlib.Core.List.{List, [], _∷_}

@@ -1,4 +1,4 @@
--- A slice of nodes, filled one by one from the first on. Assumes nothing.
+-- A slice of nodes, filled one by one from the first on.
 use mathlib.Core.Path.{_≡_, refl, sym, ap, _∙_}
 use mathlib.Core.Bool.{Bool, true, false}
 use mathlib.Core.List.{List}

@@ -1,4 +1,4 @@
--- What a filled slice answers is what the records answer. Assumes nothing.
+-- What a filled slice answers is what the records answer.
 use mathlib.Core.Path.{_≡_, ap, _∙_}
 use mathlib.Core.Bool.{true}
 use mathlib.Core.List.{List}

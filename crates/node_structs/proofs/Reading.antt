@@ -1,4 +1,4 @@
--- Link and maximum of a record by its words, and what they are among the records. Assumes nothing.
+-- Link and maximum of a record by its words, and what they are among the records.
 use mathlib.Core.Path.{_≡_, refl, sym, ap, ap₂, _∙_}
 use mathlib.Core.Bool.{Bool, true, false, cond}
 use mathlib.Core.List.{List}

@@ -1,4 +1,4 @@
--- What the nodes of a slice hold of the records that they were copied from. Assumes nothing.
+-- What the nodes of a slice hold of the records that they were copied from.
 use mathlib.Core.Path.{_≡_}
 use mathlib.Core.Bool.{true, cond}
 use mathlib.Core.List.{List}

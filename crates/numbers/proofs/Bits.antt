@@ -1,4 +1,4 @@
--- Bit lengths do not depend on the fuel, and powers of two fit. Assumes nothing.
+-- Bit lengths do not depend on the fuel, and powers of two fit.
 use mathlib.Core.Path.{_≡_, refl, sym, ap, _∙_}
 use Prim.Native.Nat.{ℕ, zero, suc, _+_, _-_, _/_, _%_, _<_, _≤_, _^_}
 use native.Mathlib.Nat.{mod-eq-of-lt, mul-mod-right, pow-succ'}

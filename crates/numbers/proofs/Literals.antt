@@ -1,4 +1,4 @@
--- Literals, their words and their signed numbers: what each test of a signed number says of its size. Assumes nothing.
+-- Literals, their words and their signed numbers: what each test of a signed number says of its size.
 use mathlib.Core.Path.{_≡_, refl, sym, ap, ap₂, _∙_}
 use mathlib.Core.Bool.{Bool, true, false, cond, _&&_, false≢true}
 use Prim.Native.Nat.{ℕ, zero, suc, _+_, _*_, _/_, _%_, _-_, _<_, _≤_, _^_}

@@ -1,4 +1,4 @@
--- Signed words of a lent slice. Assumes nothing.
+-- Signed words of a lent slice.
 use mathlib.Core.Bool.{cond}
 use mathlib.Core.List.{List}
 use Prim.Native.Nat.{ℕ}

@@ -1,4 +1,4 @@
--- The coarse bound: one less than the last multiple of the weight that is at most one more than u. Assumes nothing.
+-- The coarse bound: one less than the last multiple of the weight that is at most one more than u.
 use mathlib.Core.Path.{_≡_, refl, sym, ap, ap₂, _∙_}
 use mathlib.Core.Bool.{Bool, true, false, cond, _||_}
 use Prim.Native.Nat.{ℕ, suc, _+_, _*_, _-_, _/_, _%_, _^_, _≤_, _<_}

@@ -1,4 +1,4 @@
--- A divisor set: its three refusals in their order. Assumes nothing.
+-- A divisor set: its three refusals in their order.
 use mathlib.Core.Path.{_≡_, refl, sym, ap, ap₂, _∙_}
 use mathlib.Core.Bool.{Bool, true, false, not, _&&_, _||_}
 use mathlib.Core.List.{[], _∷_}

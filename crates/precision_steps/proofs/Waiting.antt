@@ -1,4 +1,4 @@
--- A walk from the first record on over what waits. Assumes nothing.
+-- A walk from the first record on over what waits.
 use mathlib.Core.Path.{_≡_, refl, sym, ap, _∙_}
 use mathlib.Core.Bool.{Bool, true, false, _||_}
 use mathlib.Core.List.{List, [], _∷_}

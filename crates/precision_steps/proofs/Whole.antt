@@ -1,4 +1,4 @@
--- What is well formed can be read. Assumes nothing.
+-- What is well formed can be read.
 use mathlib.Core.Path.{_≡_, sym, subst}
 use mathlib.Core.Bool.{true}
 use mathlib.Core.List.{List, map}

@@ -1,4 +1,4 @@
--- What the reading calls need of a state and a store: facts that well formed gives. Assumes nothing.
+-- What the reading calls need of a state and a store: facts that well formed gives.
 use mathlib.Core.List.{List}
 use Prim.Native.Nat.{ℕ}
 use Rattle.rules.specs.declared.State.{State}

@@ -1,4 +1,4 @@
--- The weight of a record in the walk over what waits. Assumes nothing.
+-- The weight of a record in the walk over what waits.
 use Prim.Native.Nat.{ℕ}
 use Rattle.rules.specs.Records.{Record, node, output, waiting, unknown}
 

@@ -1,5 +1,5 @@
 -- Why accepted-encode asks that the next fresh number be above every input variable: an altered state that is well formed although it
--- is not, since no number was taken yet; the encode is accepted and takes the number of an input. Assumes nothing.
+-- is not, since no number was taken yet; the encode is accepted and takes the number of an input.
 use mathlib.Core.Path.{_≡_, refl}
 use mathlib.Core.Bool.{true, false}
 use mathlib.Core.List.{[], _∷_}

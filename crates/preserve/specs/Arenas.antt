@@ -1,4 +1,4 @@
--- Outputs defined over a well formed build leave it well formed. Assumes nothing.
+-- Outputs defined over a well formed build leave it well formed.
 use mathlib.Core.Path.{_≡_, refl, sym, subst}
 use mathlib.Core.Bool.{Bool, true, not}
 use mathlib.Core.List.{List, [], _∷_, _++_, map}

@@ -1,4 +1,4 @@
--- A first build leaves a build that is well formed. Assumes nothing.
+-- A first build leaves a build that is well formed.
 use mathlib.Core.Path.{_≡_, refl, sym, _∙_, ap, ap₂, subst}
 use mathlib.Core.Logic.{_⊎_, inl, inr}
 use mathlib.Core.Bool.{true, not}

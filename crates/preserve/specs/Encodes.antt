@@ -1,4 +1,4 @@
--- An accepted encode leaves state and store well formed. Assumes nothing.
+-- An accepted encode leaves state and store well formed.
 use mathlib.Core.Path.{_≡_, refl, sym, _∙_, ap, subst}
 use mathlib.Core.Logic.{_≢_}
 use mathlib.Core.Bool.{Bool, true, false, not, _&&_, _||_}

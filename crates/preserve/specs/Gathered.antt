@@ -1,4 +1,4 @@
--- What the queue of a well formed build leaves: members that fit their buckets, and what still waits. Assumes nothing.
+-- What the queue of a well formed build leaves: members that fit their buckets, and what still waits.
 use mathlib.Core.Path.{_≡_, sym, ap}
 use mathlib.Core.Logic.{_⊎_, inl, inr}
 use mathlib.Core.Bool.{true}

@@ -1,4 +1,4 @@
--- What a well formed build gives to those who build on it. Assumes nothing.
+-- What a well formed build gives to those who build on it.
 use mathlib.Core.Path.{_≡_, refl, sym, subst}
 use mathlib.Core.Logic.{_≢_}
 use mathlib.Core.Bool.{Bool, true, false}

@@ -1,4 +1,4 @@
--- Every state that calls lead to is well formed: an accepted start, then any sets and encodes, accepted or refused. Assumes nothing.
+-- Every state that calls lead to is well formed: an accepted start, then any sets and encodes, accepted or refused.
 use mathlib.Core.Path.{_≡_, refl, sym, _∙_, ap, subst}
 use mathlib.Core.Bool.{Bool, true, false}
 use mathlib.Core.List.{List, [], _∷_, _++_, map, append-nil}

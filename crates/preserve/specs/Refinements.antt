@@ -1,4 +1,4 @@
--- A refinement whole: the old buckets linked over the new segment, then earlier outputs extended. Assumes nothing.
+-- A refinement whole: the old buckets linked over the new segment, then earlier outputs extended.
 use mathlib.Core.Path.{_≡_, sym, subst}
 use mathlib.Core.Logic.{_≢_}
 use mathlib.Core.Bool.{true}

@@ -1,4 +1,4 @@
--- A refinement leaves a build that is well formed. Assumes nothing.
+-- A refinement leaves a build that is well formed.
 use mathlib.Core.Path.{_≡_, refl, sym, _∙_, ap, ap₂, subst}
 use mathlib.Core.Logic.{_≢_}
 use mathlib.Core.Bool.{Bool, true, not, false≢true}

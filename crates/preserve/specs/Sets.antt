@@ -1,4 +1,4 @@
--- An accepted set leaves the state well formed: only the set divisor changes. Assumes nothing.
+-- An accepted set leaves the state well formed: only the set divisor changes.
 use mathlib.Core.Path.{_≡_, refl, sym, _∙_, ap}
 use mathlib.Core.Logic.{_≢_}
 use mathlib.Core.Bool.{Bool, true, false, not, _&&_, _||_, false≢true}

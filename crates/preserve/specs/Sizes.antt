@@ -1,4 +1,4 @@
--- The sizes that follow from well formed: of any build, of the queue at every step, and of what encode reaches. Assumes nothing.
+-- The sizes that follow from well formed: of any build, of the queue at every step, and of what encode reaches.
 use mathlib.Core.Path.{_≡_, refl, sym, subst}
 use mathlib.Core.Logic.{_≢_}
 use mathlib.Core.Bool.{Bool, true, false}

@@ -1,4 +1,4 @@
--- The nodes of what encode reaches go by rule, whatever the build's next fresh number. Assumes nothing.
+-- The nodes of what encode reaches go by rule, whatever the build's next fresh number.
 use mathlib.Core.Path.{_≡_, refl, sym, ap, _∙_, subst}
 use mathlib.Core.Logic.{_≢_}
 use mathlib.Core.Bool.{Bool, true, false, not, _&&_}

@@ -1,4 +1,4 @@
--- An accepted start is well formed: its records are a leaf for each literal, then an entry for each weight. Assumes nothing.
+-- An accepted start is well formed: its records are a leaf for each literal, then an entry for each weight.
 use mathlib.Core.Path.{_≡_, refl, sym, _∙_, ap, ap₂, subst}
 use mathlib.Core.Logic.{_≢_, inl}
 use mathlib.Core.Bool.{Bool, true, false, not, cond, _||_}

@@ -1,4 +1,4 @@
--- Two memories that carry the same agree. Assumes nothing.
+-- Two memories that carry the same agree.
 use mathlib.Core.Path.{_≡_}
 use Rattle.rules.specs.Totalizer.{Arena}
 use Rattle.records.specs.Carries.{St, marksOf, Fits, Carries}

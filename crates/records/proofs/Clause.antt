@@ -1,4 +1,4 @@
--- A clause written where the buffer's used words end. Assumes nothing.
+-- A clause written where the buffer's used words end.
 use mathlib.Core.Path.{_≡_, refl, sym, ap, ap₂, _∙_}
 use mathlib.Core.Bool.{Bool, true, false, cond}
 use mathlib.Core.List.{List, [], _∷_, _++_, append-assoc, append-nil}

@@ -1,5 +1,5 @@
 -- Any two results that the promise of a public function allows are equal; for readers of records, where the words store some; for a
--- step, wherever the arena that it leads to fits, and they agree on the full mark everywhere. Assumes nothing.
+-- step, wherever the arena that it leads to fits, and they agree on the full mark everywhere.
 use mathlib.Core.Path.{_≡_, sym, _∙_}
 use mathlib.Core.List.{List}
 use Prim.Native.Nat.{ℕ}

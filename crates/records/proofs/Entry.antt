@@ -1,5 +1,5 @@
 -- The two ends of a promise: what is lent is carried, and what is held is determined; a change in place begins a new entry;
--- zeroing past the marks settles every word. Assumes nothing.
+-- zeroing past the marks settles every word.
 use mathlib.Core.Path.{_≡_, refl, sym, ap, ap₂, _∙_}
 use mathlib.Core.Logic.{_⊎_, inl, inr}
 use mathlib.Core.Bool.{Bool, false}

@@ -1,4 +1,4 @@
--- What a rule needs grows: records, clause words, the next number, maxima and heights. Assumes nothing.
+-- What a rule needs grows: records, clause words, the next number, maxima and heights.
 use mathlib.Core.Path.{_≡_, refl, ap}
 use mathlib.Core.Bool.{Bool, true, false}
 use mathlib.Core.Logic.{_⊎_, inl, inr}

@@ -1,4 +1,4 @@
--- Lists laid over the front of others, and the image of records. Assumes nothing.
+-- Lists laid over the front of others, and the image of records.
 use mathlib.Core.Path.{_≡_, refl, sym, ap, ap₂, _∙_}
 use mathlib.Core.List.{List, [], _∷_, _++_, append-assoc, append-nil}
 use Prim.Native.Nat.{ℕ, zero, suc, _+_, _*_, _-_, _≤_, _<_}

@@ -1,4 +1,4 @@
--- One law for each way through a leaf function. Assumes nothing.
+-- One law for each way through a leaf function.
 use mathlib.Core.Path.{_≡_, refl, sym, ap, _∙_}
 use mathlib.Core.Bool.{Bool, true, false, cond}
 use mathlib.Core.List.{List, [], _∷_, _++_, append-assoc}

@@ -1,4 +1,4 @@
--- What the fields of a record are, where the words store records. Assumes nothing.
+-- What the fields of a record are, where the words store records.
 use mathlib.Core.Path.{_≡_, refl, sym, ap, ap₂, _∙_}
 use mathlib.Core.Bool.{Bool, true, false, cond, false≢true}
 use mathlib.Core.List.{List}

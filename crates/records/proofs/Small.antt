@@ -1,5 +1,4 @@
 -- What fits, by the room that refusal 7 speaks of; and records read from 32-bit words have maxima and heights that fit a word.
--- Assumes nothing.
 use mathlib.Core.Path.{_≡_, refl, sym, ap, subst}
 use mathlib.Core.Bool.{Bool, true, false, cond}
 use mathlib.Core.List.{List, [], _∷_}

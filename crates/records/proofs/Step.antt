@@ -1,4 +1,4 @@
--- Steps of a rule over lent memory, composed. Assumes nothing.
+-- Steps of a rule over lent memory, composed.
 use mathlib.Core.Path.{_≡_, refl, sym, ap, _∙_, subst}
 use mathlib.Core.Logic.{_⊎_, inl, inr}
 use mathlib.Core.Bool.{true, false, true≢false}

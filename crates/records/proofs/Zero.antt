@@ -1,4 +1,4 @@
--- Zeroing all words past a mark, for words of any type. Assumes nothing.
+-- Zeroing all words past a mark, for words of any type.
 use mathlib.Core.Path.{_≡_, refl, sym, ap, ap₂, _∙_}
 use mathlib.Core.List.{List, [], _∷_, _++_, append-assoc, append-nil}
 use Prim.Native.Nat.{ℕ, zero, suc, _+_, _-_, _≤_, _<_, min, max}

@@ -1,5 +1,5 @@
 -- What lent memory carries: the records and clauses of an arena, as far as there is room. The contracts of the crates above cite
--- `Steps` and `Makes` over the rules' own functions. Assumes nothing.
+-- `Steps` and `Makes` over the rules' own functions.
 use mathlib.Core.Path.{_≡_}
 use mathlib.Core.Bool.{Bool, true, false}
 use mathlib.Core.List.{List, [], _∷_, _++_}

@@ -1,4 +1,4 @@
--- Word-level steps of the leaves; what they mean for records stands in proofs/Read. Assumes nothing.
+-- Word-level steps of the leaves; what they mean for records stands in proofs/Read.
 use mathlib.Core.Bool.{true, cond}
 use mathlib.Core.List.{List, [], _∷_, _++_}
 use Prim.Native.Nat.{ℕ, _+_, _*_, _/_}

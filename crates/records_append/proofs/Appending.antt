@@ -1,4 +1,4 @@
--- A record appended where there is room; one law for each way. Assumes nothing.
+-- A record appended where there is room; one law for each way.
 use mathlib.Core.Path.{_≡_, refl, sym, ap, ap₂, _∙_, subst}
 use mathlib.Core.Bool.{Bool, true, false, cond, true≢false}
 use mathlib.Core.List.{List, [], _∷_, _++_}

@@ -1,4 +1,4 @@
--- Fresh numbers, taken. Assumes nothing.
+-- Fresh numbers, taken.
 use Prim.Native.Nat.{ℕ, _+_}
 use Rattle.rules.specs.Totalizer.{Arena}
 

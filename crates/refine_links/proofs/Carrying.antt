@@ -1,4 +1,4 @@
--- Linking anew over what is carried: where the sizes fit, the linked records begin a new entry; else no arena with them fits. Assumes nothing.
+-- Linking anew over what is carried: where the sizes fit, the linked records begin a new entry; else no arena with them fits.
 use mathlib.Core.Path.{_≡_, refl, sym}
 use mathlib.Core.Bool.{true, false, true≢false}
 use mathlib.Core.List.{List, reverse}

@@ -1,5 +1,5 @@
 -- Any two results that the promise of a public function allows are equal, where records lie in the words; the words of `relink`, where the
--- sizes fit. Assumes nothing.
+-- sizes fit.
 use mathlib.Core.Path.{_≡_, refl, sym, ap₂, _∙_}
 use mathlib.Core.Bool.{Bool, true, false, true≢false, false≢true}
 use mathlib.Core.List.{List, _++_}

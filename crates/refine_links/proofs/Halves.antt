@@ -1,4 +1,4 @@
--- The halves of the former right maxima, one bucket after the other. Assumes nothing.
+-- The halves of the former right maxima, one bucket after the other.
 use mathlib.Core.Path.{_≡_, sym, ap, ap₂, _∙_}
 use mathlib.Core.List.{List, [], _∷_, _++_, map}
 use Prim.Native.Nat.{ℕ, suc, _+_, _-_, _/_, _≤_, _<_}

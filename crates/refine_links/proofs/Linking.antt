@@ -1,4 +1,4 @@
--- One bucket linked anew over the words, and the turns of the loop over all of them. Assumes nothing.
+-- One bucket linked anew over the words, and the turns of the loop over all of them.
 use mathlib.Core.Path.{_≡_, refl, sym, ap, ap₂, _∙_, subst}
 use mathlib.Core.Logic.{_≢_}
 use mathlib.Core.Bool.{Bool, true, false, cond, false≢true, true≢false}

@@ -1,4 +1,4 @@
--- The rule of linking buckets anew, over records: what it keeps, and the sizes that it makes. Assumes nothing.
+-- The rule of linking buckets anew, over records: what it keeps, and the sizes that it makes.
 use mathlib.Core.Path.{_≡_, refl, ap, _∙_, subst}
 use mathlib.Core.Logic.{_≢_}
 use mathlib.Core.Bool.{Bool, true, false}

@@ -1,4 +1,4 @@
--- The used slots of an array: facts of each, how often it stands among them, and the order from the last to the first. Assumes nothing.
+-- The used slots of an array: facts of each, how often it stands among them, and the order from the last to the first.
 use mathlib.Core.Path.{_≡_, refl, sym, ap, _∙_, subst}
 use mathlib.Core.List.{List, [], _∷_, _++_, reverse, reverse-cons}
 use Prim.Native.Nat.{ℕ, zero, suc, _≤_, _<_}

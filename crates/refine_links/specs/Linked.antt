@@ -1,4 +1,4 @@
--- What linking a bucket anew, and all of them, promises of the words that the records lie in. Assumes nothing.
+-- What linking a bucket anew, and all of them, promises of the words that the records lie in.
 use mathlib.Core.Path.{_≡_}
 use mathlib.Core.Bool.{Bool, true, false}
 use mathlib.Core.List.{List, reverse}

@@ -1,4 +1,4 @@
--- A bucket with another right link, and the words of its record. Assumes nothing.
+-- A bucket with another right link, and the words of its record.
 use mathlib.Core.List.{List, [], _∷_}
 use Prim.Native.Nat.{ℕ}
 use Rattle.refine_links.specs.declared.Bucket.{Bucket}

@@ -1,5 +1,5 @@
 -- Any two results that the promise of a public function allows are equal, wherever the arena that it leads to fits; they agree on the
--- full mark everywhere. Assumes nothing.
+-- full mark everywhere.
 use mathlib.Core.Path.{_≡_}
 use mathlib.Core.List.{List, map, reverse}
 use Prim.Native.Nat.{_≤_}

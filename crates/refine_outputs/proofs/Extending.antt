@@ -1,4 +1,4 @@
--- Old outputs extended one record after the other, and one bucket after the other: the rule only appends, so the old records stand. Assumes nothing.
+-- Old outputs extended one record after the other, and one bucket after the other: the rule only appends, so the old records stand.
 use mathlib.Core.Path.{_≡_, refl, sym, ap, _∙_, subst}
 use mathlib.Core.Bool.{Bool, true, false, cond}
 use mathlib.Core.List.{List, [], _∷_, _++_, map, reverse}

@@ -1,4 +1,4 @@
--- The further clauses of the outputs of a node among some records, and of one record. Assumes nothing.
+-- The further clauses of the outputs of a node among some records, and of one record.
 use mathlib.Core.List.{List, [], _∷_}
 use Prim.Native.Nat.{ℕ}
 use lib.Dec.{eqb}

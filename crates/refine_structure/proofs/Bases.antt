@@ -1,4 +1,4 @@
--- What is carried over an entry changed in place is held over the entry itself. Assumes nothing.
+-- What is carried over an entry changed in place is held over the entry itself.
 use mathlib.Core.Path.{_≡_, refl, sym, ap, ap₂, _∙_, subst}
 use mathlib.Core.List.{List, _++_}
 use Prim.Native.Nat.{ℕ, _+_, _*_, _-_, _/_, _≤_, _<_}

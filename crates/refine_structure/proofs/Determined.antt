@@ -1,5 +1,5 @@
 -- Any two results that the promise of `merge_structures` allows are the same refinement wherever it fits, word for word, with the same tares,
--- buckets and queue; they agree on the full mark everywhere. Assumes nothing.
+-- buckets and queue; they agree on the full mark everywhere.
 use mathlib.Core.Path.{_≡_, sym, _∙_}
 use mathlib.Core.Logic.{_⊎_, inl, inr}
 use mathlib.Core.Bool.{true}

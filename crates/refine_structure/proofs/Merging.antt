@@ -1,4 +1,4 @@
--- A refinement by the state and the words that hold the build: what its parts ask, and what they come to. Assumes nothing.
+-- A refinement by the state and the words that hold the build: what its parts ask, and what they come to.
 use mathlib.Core.Path.{_≡_, sym, ap, ap₂, _∙_, subst}
 use mathlib.Core.Logic.{_≢_}
 use mathlib.Core.List.{List, [], _++_, map}

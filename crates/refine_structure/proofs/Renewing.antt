@@ -1,4 +1,4 @@
--- Old buckets renewed over what is carried: the words changed in place begin a new entry. Assumes nothing.
+-- Old buckets renewed over what is carried: the words changed in place begin a new entry.
 use mathlib.Core.Path.{_≡_, refl, sym, ap, _∙_, subst}
 use mathlib.Core.Bool.{Bool, true, false, true≢false}
 use mathlib.Core.List.{List, _++_, map, reverse}

@@ -1,4 +1,4 @@
--- The tower of a refinement is the rule's new segment: what it leads to, and where it fits. Assumes nothing.
+-- The tower of a refinement is the rule's new segment: what it leads to, and where it fits.
 use mathlib.Core.Path.{_≡_, refl, sym, ap, ap₂, _∙_, subst}
 use mathlib.Core.Logic.{_≢_}
 use mathlib.Core.Bool.{Bool, true, false}

@@ -1,4 +1,4 @@
--- The powers of a refinement's tower, by the state. Assumes nothing.
+-- The powers of a refinement's tower, by the state.
 use mathlib.Core.Path.{_≡_, subst}
 use mathlib.Core.List.{List}
 use Prim.Native.Nat.{ℕ, _+_, _-_, _^_, _≤_, _<_}

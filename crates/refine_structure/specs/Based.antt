@@ -1,4 +1,4 @@
--- An entry with the records of some buckets changed in place. Assumes nothing.
+-- An entry with the records of some buckets changed in place.
 use mathlib.Core.Path.{_≡_}
 use mathlib.Core.List.{List}
 use Prim.Native.Nat.{ℕ, _*_, _/_, _<_}

@@ -1,4 +1,4 @@
--- What a refinement needs and what it promises. Assumes nothing.
+-- What a refinement needs and what it promises.
 use mathlib.Core.Path.{_≡_}
 use mathlib.Core.Logic.{_≢_}
 use mathlib.Core.Bool.{true}

@@ -1,4 +1,4 @@
--- "Sums on the blackboard": P1 to P9 and more small cases, each computed over the public calls. Assumes nothing.
+-- "Sums on the blackboard": P1 to P9 and more small cases, each computed over the public calls.
 use mathlib.Core.Path.{_≡_, refl}
 use mathlib.Core.Bool.{Bool, true, false, not, _||_}
 use mathlib.Core.List.{List, [], _∷_, _++_, map}

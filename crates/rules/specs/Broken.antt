@@ -1,4 +1,4 @@
--- A state or store that is broken in one single clause of "Well formed", for each clause; 12 refuses it. Assumes nothing.
+-- A state or store that is broken in one single clause of "Well formed", for each clause; 12 refuses it.
 use mathlib.Core.Path.{_≡_, refl}
 use mathlib.Core.Bool.{Bool, true, false, cond}
 use mathlib.Core.List.{List, [], _∷_, map}

@@ -1,4 +1,4 @@
--- "Buckets and tares": the first build. Assumes nothing.
+-- "Buckets and tares": the first build.
 use mathlib.Core.Bool.{Bool, true, false}
 use mathlib.Core.List.{List, [], _∷_, _++_}
 use Prim.Native.Nat.{ℕ, _+_, _-_}

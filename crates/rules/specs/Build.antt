@@ -1,4 +1,4 @@
--- A build, and the state and store that hold it. Assumes nothing.
+-- A build, and the state and store that hold it.
 use mathlib.Core.Bool.{Bool, true, false, not}
 use mathlib.Core.List.{List, [], _∷_, _++_, map}
 use Prim.Native.Nat.{ℕ, _+_, _-_, _^_, max}

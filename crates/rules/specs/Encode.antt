@@ -1,4 +1,4 @@
--- Encode: the state it reaches, what it refuses, and what each lent word holds afterwards. Assumes nothing.
+-- Encode: the state it reaches, what it refuses, and what each lent word holds afterwards.
 use mathlib.Core.Bool.{Bool, true, false, not, _&&_, _||_}
 use mathlib.Core.List.{List, [], _∷_, _++_}
 use Prim.Native.Nat.{ℕ, zero, suc, _+_, _*_, _-_, _/_, min}

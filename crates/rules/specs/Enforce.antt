@@ -1,4 +1,4 @@
--- Enforce: the answer, and what the scratch and the refusal word hold afterwards. Assumes nothing.
+-- Enforce: the answer, and what the scratch and the refusal word hold afterwards.
 use mathlib.Core.Bool.{Bool, true, false, cond, _&&_}
 use mathlib.Core.Option.{Option, none, some}
 use mathlib.Core.List.{List, [], _∷_, _++_}

@@ -1,4 +1,4 @@
--- "Numbers that hold". Assumes nothing.
+-- "Numbers that hold".
 use mathlib.Core.Bool.{Bool, _&&_}
 use mathlib.Core.List.{List}
 use Prim.Native.Nat.{ℕ, zero, suc, _/_, min}

@@ -1,4 +1,4 @@
--- Set precision, next precision, maximum precision. They write nothing. Assumes nothing.
+-- Set precision, next precision, maximum precision. They write nothing.
 use mathlib.Core.Bool.{Bool, true, false, not, _&&_}
 use mathlib.Core.List.{List, [], _∷_}
 use Prim.Native.Nat.{ℕ, zero, suc, _^_}

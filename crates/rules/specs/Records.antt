@@ -1,4 +1,4 @@
--- Records and their words: eight to a record, `kind, a, b, c, maximum, height, role, index`. Assumes nothing.
+-- Records and their words: eight to a record, `kind, a, b, c, maximum, height, role, index`.
 --
 --   leaf     1  literal              maximum  height
 --   join     2  left  right  halved  maximum  height

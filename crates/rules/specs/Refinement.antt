@@ -1,4 +1,4 @@
--- "Refinement". Assumes nothing.
+-- "Refinement".
 use mathlib.Core.Bool.{Bool, true, not, _&&_}
 use mathlib.Core.List.{List, [], _∷_, _++_, reverse}
 use Prim.Native.Nat.{ℕ, suc, _+_, _-_, _/_}

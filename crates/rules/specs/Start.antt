@@ -1,4 +1,4 @@
--- Start: what it refuses, the build it makes, and what each lent word holds afterwards. Assumes nothing.
+-- Start: what it refuses, the build it makes, and what each lent word holds afterwards.
 use mathlib.Core.Bool.{Bool}
 use mathlib.Core.List.{List, [], _∷_, map, zipWith}
 use Prim.Native.Nat.{ℕ, zero, suc, _*_}

@@ -1,4 +1,4 @@
--- "Totalizer". A node is known by its place among the records; defining outputs adds records and changes none. Assumes nothing.
+-- "Totalizer". A node is known by its place among the records; defining outputs adds records and changes none.
 use mathlib.Core.Bool.{Bool, true, false, cond, _&&_}
 use mathlib.Core.List.{List, [], _∷_, _++_, map}
 use Prim.Native.Nat.{ℕ, zero, suc, _+_, _*_, _-_, _/_, min, max}

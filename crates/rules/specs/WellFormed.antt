@@ -1,4 +1,4 @@
--- "Well formed", one definition a clause, in the paragraph's order; refusal 12 is given where one fails. Clause words are not read. Assumes nothing.
+-- "Well formed", one definition a clause, in the paragraph's order; refusal 12 is given where one fails. Clause words are not read.
 use mathlib.Core.Bool.{Bool, true, false, not, cond, _&&_, _||_}
 use mathlib.Core.List.{List, [], _∷_, _++_, map}
 use Prim.Native.Nat.{ℕ, suc, _*_, _^_}

@@ -1,4 +1,4 @@
--- Any two results that the promise of `refusal` allows are equal. Assumes nothing.
+-- Any two results that the promise of `refusal` allows are equal.
 use mathlib.Core.Path.{sym, _∙_}
 use Rattle.numbers.proofs.Determined.{One-result}
 use Rattle.start_lists.proofs.refusal.Kinds as refusal-kinds

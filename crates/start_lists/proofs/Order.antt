@@ -1,4 +1,4 @@
--- The refusals of start in their order, from the tests of the lists. Assumes nothing.
+-- The refusals of start in their order, from the tests of the lists.
 use mathlib.Core.Path.{_≡_, refl, sym, ap, ap₂, _∙_}
 use mathlib.Core.Bool.{Bool, true, false, not, cond, _&&_, _||_}
 use mathlib.Core.List.{List, [], _∷_, map}

@@ -1,4 +1,4 @@
--- A walk along a list asked whether all pass a test, and the words of the literals. Assumes nothing.
+-- A walk along a list asked whether all pass a test, and the words of the literals.
 use mathlib.Core.Path.{_≡_, refl, sym, ap, _∙_}
 use mathlib.Core.Bool.{Bool, true, false, not}
 use mathlib.Core.List.{List, [], _∷_}

@@ -1,4 +1,4 @@
--- The words of the literals of a list. Assumes nothing.
+-- The words of the literals of a list.
 use mathlib.Core.List.{List, map}
 use Prim.Native.Nat.{ℕ}
 use lib.IntN.{ℤ}

@@ -1,4 +1,4 @@
--- The clauses of the pairs, and then the number: one law for each way. Assumes nothing.
+-- The clauses of the pairs, and then the number: one law for each way.
 use mathlib.Core.Path.{_≡_, refl, sym, ap, ap₂, _∙_}
 use mathlib.Core.Bool.{Bool, true, false, false≢true}
 use mathlib.Core.List.{List, [], _∷_, _++_}

@@ -1,6 +1,6 @@
 -- Any two results that the promise of a public function allows are equal: those of `spread` where the words store records, those of
 -- `through` where the value fits a word, those of a step wherever the arena that it leads to fits; steps agree on the full mark
--- everywhere. Assumes nothing.
+-- everywhere.
 use mathlib.Core.Path.{_≡_, sym, ap, _∙_}
 use mathlib.Core.List.{List}
 use Prim.Native.Nat.{ℕ, suc, _+_, _-_, _≤_, _<_, min}

@@ -1,4 +1,4 @@
--- Writing clauses and taking a number only grow what is needed. Assumes nothing.
+-- Writing clauses and taking a number only grow what is needed.
 use mathlib.Core.Path.{ap}
 use mathlib.Core.Bool.{Bool}
 use mathlib.Core.List.{List, map}

@@ -1,4 +1,4 @@
--- The pairs of an output, counted, and the loop that writes their clauses. Assumes nothing.
+-- The pairs of an output, counted, and the loop that writes their clauses.
 use mathlib.Core.Path.{_≡_, refl, sym, ap, _∙_}
 use mathlib.Core.Bool.{Bool, true, false}
 use mathlib.Core.List.{List, [], _∷_, map, append-assoc, append-nil}

@@ -1,4 +1,4 @@
--- The pairs of an output, counted. Assumes nothing.
+-- The pairs of an output, counted.
 use mathlib.Core.Path.{_≡_}
 use mathlib.Core.Bool.{Bool}
 use mathlib.Core.List.{List}

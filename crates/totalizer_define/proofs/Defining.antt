@@ -1,4 +1,4 @@
--- An output asks its connections, a connection asks its node: one law for each way. Assumes nothing.
+-- An output asks its connections, a connection asks its node: one law for each way.
 use mathlib.Core.Path.{_≡_, refl, sym, ap, ap₂, _∙_}
 use mathlib.Core.Bool.{Bool, true, false, false≢true}
 use mathlib.Core.List.{List}

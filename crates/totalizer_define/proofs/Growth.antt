@@ -1,4 +1,4 @@
--- Defining only grows what is needed. Assumes nothing.
+-- Defining only grows what is needed.
 use mathlib.Core.Bool.{Bool, true}
 use mathlib.Core.List.{List, [], _∷_}
 use Prim.Native.Nat.{ℕ, zero, suc}

@@ -1,4 +1,4 @@
--- A walk from the first record on finds the first output of a node and value. Assumes nothing.
+-- A walk from the first record on finds the first output of a node and value.
 use mathlib.Core.Path.{_≡_, refl, sym, ap, _∙_}
 use mathlib.Core.Bool.{Bool, true, false, cond, _&&_}
 use mathlib.Core.List.{List, [], _∷_}

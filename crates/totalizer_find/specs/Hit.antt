@@ -1,4 +1,4 @@
--- The test of one record in the walk. Assumes nothing.
+-- The test of one record in the walk.
 use mathlib.Core.Bool.{Bool, false, cond}
 use mathlib.Core.List.{List}
 use Prim.Native.Nat.{ℕ}

@@ -1,5 +1,5 @@
 -- Any two results that the promise of `merge` allows are equal, wherever the arena that it leads to fits; they agree on the full mark
--- everywhere. Assumes nothing.
+-- everywhere.
 use mathlib.Core.List.{List}
 use borrow.Fn.Kinds.{Dens, resT, endedOf}
 use denote.Triple.Clauses.{AtExit}

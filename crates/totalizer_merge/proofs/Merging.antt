@@ -1,4 +1,4 @@
--- A merge is its two halves and their join, whatever the fuel. Assumes nothing.
+-- A merge is its two halves and their join, whatever the fuel.
 use mathlib.Core.Path.{_≡_, refl, sym, ap, _∙_, subst}
 use mathlib.Core.Bool.{false}
 use mathlib.Core.List.{List, [], _∷_}

@@ -1,4 +1,4 @@
--- The order of encode's refusals, and what each end leaves. Assumes nothing.
+-- The order of encode's refusals, and what each end leaves.
 use mathlib.Core.Path.{_≡_, refl, sym, ap, ap₂, _∙_}
 use mathlib.Core.Bool.{Bool, true, false, not, _&&_, _||_}
 use mathlib.Core.List.{List, [], _∷_}

@@ -1,4 +1,4 @@
--- How an encode that has something to do ends: exactly what the rules reach, or refusal 7 with no trace. Assumes nothing.
+-- How an encode that has something to do ends: exactly what the rules reach, or refusal 7 with no trace.
 use mathlib.Core.Path.{_≡_, refl, sym, ap, ap₂, _∙_, subst}
 use mathlib.Core.Logic.{_⊎_, inl, inr, _≢_}
 use mathlib.Core.Bool.{Bool, true, false, not, _&&_, true≢false}

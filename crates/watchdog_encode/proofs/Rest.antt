@@ -1,4 +1,4 @@
--- Where every output of the range is defined, encode does nothing; where one is not, it takes a number. Assumes nothing.
+-- Where every output of the range is defined, encode does nothing; where one is not, it takes a number.
 use mathlib.Core.Path.{_≡_, refl, sym, ap, _∙_, subst}
 use mathlib.Core.Bool.{Bool, true, false, not, _&&_, false≢true}
 use mathlib.Core.List.{List, [], _∷_}

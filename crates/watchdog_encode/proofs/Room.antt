@@ -1,4 +1,4 @@
--- What encode reaches fits exactly where refusal 7 does not hold. Assumes nothing.
+-- What encode reaches fits exactly where refusal 7 does not hold.
 use mathlib.Core.Path.{_≡_, refl, sym, ap₂, _∙_, subst}
 use mathlib.Core.Bool.{Bool, true, false, _||_}
 use mathlib.Core.List.{List}

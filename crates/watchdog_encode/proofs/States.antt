@@ -1,4 +1,4 @@
--- What every way of encode keeps of a build, and the state that it ends with. Assumes nothing.
+-- What every way of encode keeps of a build, and the state that it ends with.
 use mathlib.Core.Path.{_≡_, refl, sym, ap, ap₂, _∙_}
 use mathlib.Core.Bool.{Bool, true, false}
 use mathlib.Core.List.{List}

@@ -1,4 +1,4 @@
--- The tests of an encode by the words: what is asked, what is due, what is already defined. Assumes nothing.
+-- The tests of an encode by the words: what is asked, what is due, what is already defined.
 use mathlib.Core.Path.{_≡_, refl, sym, ap, ap₂, _∙_, subst}
 use mathlib.Core.Logic.{_≢_}
 use mathlib.Core.Bool.{Bool, true, false, not, _&&_, _||_, false≢true}

@@ -1,4 +1,4 @@
--- What an encode that has something to do is handed, and a state by its fields. Assumes nothing.
+-- What an encode that has something to do is handed, and a state by its fields.
 use mathlib.Core.Path.{_≡_}
 use mathlib.Core.Bool.{true, false}
 use mathlib.Core.List.{List}

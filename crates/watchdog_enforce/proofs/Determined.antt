@@ -1,5 +1,5 @@
 -- Any two results that the promises of enforce allow are equal: of `enforce_count` with every word of the scratch, of `enforce_ub`
--- with the part's words and place. Assumes nothing.
+-- with the part's words and place.
 use mathlib.Core.Path.{_≡_, sym, _∙_}
 use borrow.Fn.Kinds.{Dens, resT, endedOf}
 use denote.Ref.{ptr}

@@ -1,4 +1,4 @@
--- The test of well formed in front of an answer, and the answer as the front of the scratch. Assumes nothing.
+-- The test of well formed in front of an answer, and the answer as the front of the scratch.
 use mathlib.Core.Path.{_≡_, refl, sym, ap, ap₂, _∙_}
 use mathlib.Core.Bool.{Bool, true, false}
 use mathlib.Core.Option.{Option, none, some}

@@ -1,4 +1,4 @@
--- An answer has at most 20 literals: the negation of an output, and the tares. Assumes nothing.
+-- An answer has at most 20 literals: the negation of an output, and the tares.
 use mathlib.Core.Path.{_≡_, refl}
 use mathlib.Core.Bool.{Bool, true, false, cond, _&&_}
 use mathlib.Core.Option.{Option, none, some}

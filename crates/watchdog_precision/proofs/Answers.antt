@@ -1,4 +1,4 @@
--- The answers of the reading calls, with the test of well formed in front. Assumes nothing.
+-- The answers of the reading calls, with the test of well formed in front.
 use mathlib.Core.Path.{_≡_, sym, ap, _∙_}
 use mathlib.Core.Bool.{Bool, true, false, not, cond, _&&_}
 use mathlib.Core.List.{List, [], _∷_}

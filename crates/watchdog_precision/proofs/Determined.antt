@@ -1,4 +1,4 @@
--- Any two results that the promises of the reading calls allow are equal. Assumes nothing.
+-- Any two results that the promises of the reading calls allow are equal.
 use mathlib.Core.Path.{sym, _∙_}
 use Rattle.numbers.proofs.Determined.{One-result}
 use Rattle.watchdog_precision.proofs.set_precision.Kinds as set-precision-kinds

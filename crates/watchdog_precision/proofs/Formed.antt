@@ -1,4 +1,4 @@
--- What a well formed state and store give the calls that read them. Assumes nothing.
+-- What a well formed state and store give the calls that read them.
 use mathlib.Core.Path.{_≡_}
 use mathlib.Core.Bool.{true}
 use mathlib.Core.List.{List}

@@ -1,4 +1,4 @@
--- An accepted start holds exactly the new build; a refused one holds what it was lent. Assumes nothing.
+-- An accepted start holds exactly the new build; a refused one holds what it was lent.
 use mathlib.Core.Path.{_≡_, refl, sym, ap, ap₂, _∙_, subst}
 use mathlib.Core.Bool.{true}
 use mathlib.Core.List.{List, [], _++_}

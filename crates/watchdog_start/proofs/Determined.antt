@@ -1,4 +1,4 @@
--- Any two results that the promise of `start` allows are equal, every lent word among them. Assumes nothing.
+-- Any two results that the promise of `start` allows are equal, every lent word among them.
 use mathlib.Core.Path.{_≡_, sym, ap, _∙_}
 use borrow.Fn.Kinds.{Dens, resT, endedOf}
 use denote.Triple.Clauses.{AtExit}

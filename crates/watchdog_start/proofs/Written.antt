@@ -1,4 +1,4 @@
--- What start writes, record by record. Assumes nothing.
+-- What start writes, record by record.
 use mathlib.Core.Path.{_≡_, refl, sym, ap, _∙_}
 use mathlib.Core.Bool.{Bool, true, cond}
 use mathlib.Core.List.{List, [], _∷_, _++_, map, zipWith, append-assoc, append-nil}

@@ -1,4 +1,4 @@
--- The records that start writes, and its states, for the promises of its private parts. Assumes nothing.
+-- The records that start writes, and its states, for the promises of its private parts.
 use mathlib.Core.Bool.{false}
 use mathlib.Core.List.{List, _++_, map, zipWith}
 use Prim.Native.Nat.{ℕ}

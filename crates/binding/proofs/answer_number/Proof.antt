@@ -1,4 +1,4 @@
--- `answer_number` takes the answer apart. Assumes nothing.
+-- `answer_number` takes the answer apart.
 use borrow.Author.Needs.{needs}
 use Rattle.rules.specs.Refusals.{answer-number}
 use Rattle.binding.proofs.answer_number.Statement.{statement}

@@ -1,4 +1,4 @@
--- `coarse_value` takes the answer apart. Assumes nothing.
+-- `coarse_value` takes the answer apart.
 use borrow.Author.Needs.{needs}
 use Rattle.binding.proofs.Values.{a-bound, no-bound}
 use Rattle.binding.proofs.coarse_value.Statement.{statement}

@@ -1,4 +1,4 @@
--- `maximum_value` takes the answer apart. Assumes nothing.
+-- `maximum_value` takes the answer apart.
 use borrow.Author.Needs.{needs}
 use Rattle.binding.proofs.Values.{a-yes, a-no, neither}
 use Rattle.binding.proofs.maximum_value.Statement.{statement}

@@ -1,4 +1,4 @@
--- `mirrored` copies every field. Assumes nothing.
+-- `mirrored` copies every field.
 use borrow.Author.Needs.{needs}
 use Rattle.binding.specs.Mirror.{mirrored}
 use Rattle.binding.proofs.mirrored.Statement.{statement}

@@ -1,4 +1,4 @@
--- `precision_value` takes the answer apart. Assumes nothing.
+-- `precision_value` takes the answer apart.
 use borrow.Author.Needs.{needs}
 use Rattle.binding.proofs.Values.{a-divisor, no-divisor}
 use Rattle.binding.proofs.precision_value.Statement.{statement}

@@ -1,4 +1,4 @@
--- `state_of` copies every field. Assumes nothing.
+-- `state_of` copies every field.
 use borrow.Author.Needs.{needs}
 use Rattle.binding.specs.Mirror.{state-of}
 use Rattle.binding.proofs.state_of.Statement.{statement}

@@ -1,4 +1,4 @@
--- `tweedpillar_encode_ub_change` is the call of its name. Assumes nothing.
+-- `tweedpillar_encode_ub_change` is the call of its name.
 use borrow.Author.Needs.{needs}
 use mathlib.Core.Path.{ap, _∙_}
 use Rattle.rules.specs.declared.State.{State}

@@ -1,4 +1,4 @@
--- `tweedpillar_enforce_ub` is the call of its name. Assumes nothing.
+-- `tweedpillar_enforce_ub` is the call of its name.
 use borrow.Author.Needs.{needs}
 use mathlib.Core.Path.{ap}
 use Rattle.rules.specs.declared.State.{State}

@@ -1,4 +1,4 @@
--- `tweedpillar_next_precision` is the call of its name. Assumes nothing.
+-- `tweedpillar_next_precision` is the call of its name.
 use borrow.Author.Needs.{needs}
 use Rattle.rules.specs.declared.State.{State}
 use Rattle.rules.specs.Precision.{next-precision}

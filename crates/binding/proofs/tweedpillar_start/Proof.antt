@@ -1,4 +1,4 @@
--- `tweedpillar_start` is the call of its name. Assumes nothing.
+-- `tweedpillar_start` is the call of its name.
 use borrow.Author.Needs.{needs}
 use Rattle.binding.proofs.Ends.{start-held}
 use Rattle.binding.proofs.tweedpillar_start.Statement.{statement}

@@ -1,4 +1,4 @@
--- `append_buckets` fills the slots behind in turn. Assumes nothing.
+-- `append_buckets` fills the slots behind in turn.
 use mathlib.Core.Path.{_≡_, sym, ap, _∙_}
 use mathlib.Core.List.{List, _++_, append-nil}
 use Prim.Native.Nat.{ℕ, _+_, _-_, _≤_}
@@ -43,10 +43,17 @@ loop-less : tie.Need-loop-less Inv-loop μ-loop
 loop-less c = omega (arith, c .before .loop-test .taken)
 
 loop-again : tie.Need-loop-again Inv-loop μ-loop
-loop-again c = (λ xs l p. words-turn 20 (c .before .before .before .args .many) (c .before .before .loop .i) (c .before .before .before .args .from) xs (c .before .before .before .args .work .now) (c .before .before .loop .buckets) l (omega (arith, c .before .loop-test .taken, c .before .before .before .pre)) (omega (arith, c .before .loop-test .taken, c .before .before .before .pre)) (c .before .before .loop .inv .0 xs l p), omega (arith, c .before .loop-test .taken))
+loop-again c =
+    let loop-test = c .before .loop-test in
+    let loop = c .before .before .loop in
+    let args = c .before .before .before .args in
+    let pre = c .before .before .before .pre in
+    (λ xs l p. words-turn 20 (args .many) (loop .i) (args .from) xs (args .work .now) (loop .buckets) l (omega (arith, loop-test .taken, pre)) (omega (arith, loop-test .taken, pre)) (loop .inv .0 xs l p), omega (arith, loop-test .taken))
 
 returns : tie.Need-returns Inv-loop μ-loop
-returns c = λ xs l p. append-end 20 _ _ xs _ _ (c .before .loop .inv .1) (c .loop-test .left) (c .before .loop .inv .0 xs l p)
+returns c =
+    let loop = c .before .loop in
+    λ xs l p. append-end 20 _ _ xs _ _ (loop .inv .1) (c .loop-test .left) (loop .inv .0 xs l p)
 
 pub append-buckets-spec : {M : Type 1} → statement M
 append-buckets-spec =

@@ -1,4 +1,4 @@
--- `append_tares` fills the slots behind in turn. Assumes nothing.
+-- `append_tares` fills the slots behind in turn.
 use mathlib.Core.Path.{_≡_, sym, ap, _∙_}
 use mathlib.Core.List.{List, _++_, append-nil}
 use Prim.Native.Nat.{ℕ, _+_, _-_, _≤_}
@@ -40,10 +40,14 @@ loop-less : tie.Need-loop-less Inv-loop μ-loop
 loop-less c = omega (arith, c .loop-test .taken)
 
 loop-again : tie.Need-loop-again Inv-loop μ-loop
-loop-again c = (λ xs l p. append-turn 19 _ _ xs _ _ l (omega (arith, c .loop-test .taken, c .before .before .pre)) (omega (arith, c .loop-test .taken, c .before .before .pre)) (c .before .loop .inv .0 xs l p), omega (arith, c .loop-test .taken))
+loop-again c =
+    let pre = c .before .before .pre in
+    (λ xs l p. append-turn 19 _ _ xs _ _ l (omega (arith, c .loop-test .taken, pre)) (omega (arith, c .loop-test .taken, pre)) (c .before .loop .inv .0 xs l p), omega (arith, c .loop-test .taken))
 
 returns : tie.Need-returns Inv-loop μ-loop
-returns c = λ xs l p. append-end 19 _ _ xs _ _ (c .before .loop .inv .1) (c .loop-test .left) (c .before .loop .inv .0 xs l p)
+returns c =
+    let loop = c .before .loop in
+    λ xs l p. append-end 19 _ _ xs _ _ (loop .inv .1) (c .loop-test .left) (loop .inv .0 xs l p)
 
 pub append-tares-spec : {M : Type 1} → statement M
 append-tares-spec =

@@ -1,4 +1,4 @@
--- `fresh_tares` fills the slots in turn. Assumes nothing.
+-- `fresh_tares` fills the slots in turn.
 use mathlib.Core.Path.{_≡_}
 use Prim.Native.Nat.{_-_, _≤_}
 use native.Mathlib.Omega.{arith}
@@ -38,7 +38,9 @@ loop-again : tie.Need-loop-again Inv-loop μ-loop
 loop-again c = (fresh-turn _ _ _ (omega (arith, c .loop-test .taken, c .before .before .pre .0)) (c .before .loop .inv .0), omega (arith, c .loop-test .taken))
 
 returns : tie.Need-returns Inv-loop μ-loop
-returns c = fresh-end _ _ _ _ (c .before .loop .inv .1) (c .loop-test .left) (c .before .loop .inv .0)
+returns c =
+    let loop = c .before .loop in
+    fresh-end _ _ _ _ (loop .inv .1) (c .loop-test .left) (loop .inv .0)
 
 pub fresh-tares-spec : {M : Type 1} → statement M
 fresh-tares-spec =

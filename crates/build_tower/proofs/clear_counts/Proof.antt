@@ -1,4 +1,4 @@
--- `clear_counts` goes through the counts: those before k are 0. Assumes nothing.
+-- `clear_counts` goes through the counts: those before k are 0.
 use mathlib.Core.Path.{_≡_, refl, _∙_}
 use Prim.Native.Nat.{ℕ, _-_, _≤_, _<_}
 use native.Mathlib.Omega.{arith}
@@ -31,13 +31,19 @@ loop-less : tie.Need-loop-less Inv-loop μ-loop
 loop-less c = omega (arith, c .before .before .before .before .loop-test .taken)
 
 loop-again : tie.Need-loop-again Inv-loop μ-loop
-loop-again c = (clear-turn (c .before .before .before .before .before .before .before .args .work .now) _ _ _ (c .before .before .before .before .loop-test .taken) (c .before .before .before .before .before .before .before .pre) (c .before .before .before .before .before .loop .inv .1) (c .before .before .before .before .before .loop .inv .0) (c .before .before .put .ensures), c .before .before .put .kept .0 ∙ c .before .before .before .before .before .loop .inv .1, omega (arith, c .before .before .before .before .loop-test .taken))
+loop-again c =
+    let put = c .before .before .put in
+    let loop-test = c .before .before .before .before .loop-test in
+    let loop = c .before .before .before .before .before .loop in
+    (clear-turn (c .before .before .before .before .before .before .before .args .work .now) _ _ _ (loop-test .taken) (c .before .before .before .before .before .before .before .pre) (loop .inv .1) (loop .inv .0) (put .ensures), put .kept .0 ∙ loop .inv .1, omega (arith, loop-test .taken))
 
 same-length : tie.Need-same-length Inv-loop μ-loop
 same-length c = c .before .loop .inv .1
 
 returns : tie.Need-returns Inv-loop μ-loop
-returns c = (λ k h. c .before .loop .inv .0 k (omega (arith, c .loop-test .left)), c .before .loop .inv .1)
+returns c =
+    let loop = c .before .loop in
+    (λ k h. loop .inv .0 k (omega (arith, c .loop-test .left)), loop .inv .1)
 
 pub clear-counts-spec : {M : Type 1} → statement M
 clear-counts-spec =

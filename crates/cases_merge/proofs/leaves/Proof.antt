@@ -1,4 +1,4 @@
--- `leaves` makes 256 turns and keeps the lengths of what is lent. Assumes nothing.
+-- `leaves` makes 256 turns and keeps the lengths of what is lent.
 use mathlib.Core.Path.{_≡_, refl, _∙_}
 use Prim.Native.Nat.{_-_, _≤_}
 use native.Mathlib.Omega.{arith}
@@ -38,7 +38,9 @@ loop-less : tie.Need-loop-less Inv-loop μ-loop
 loop-less c = omega arith
 
 loop-again : tie.Need-loop-again Inv-loop μ-loop
-loop-again c = (omega arith, c .before .before .before .before .before .before .before .leaf .kept .0 ∙ c .before .before .before .before .before .before .before .before .before .before .loop .inv .1, c .before .before .put .kept .0 ∙ c .before .before .before .before .before .before .before .before .before .before .loop .inv .2)
+loop-again c =
+    let loop = c .before .before .before .before .before .before .before .before .before .before .loop in
+    (omega arith, c .before .before .before .before .before .before .before .leaf .kept .0 ∙ loop .inv .1, c .before .before .put .kept .0 ∙ loop .inv .2)
 
 same-length : tie.Need-same-length Inv-loop μ-loop
 same-length c = c .before .loop .inv .1

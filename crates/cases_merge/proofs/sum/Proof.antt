@@ -1,4 +1,4 @@
--- `sum` goes through the words; the sum stays below its modulus. Assumes nothing.
+-- `sum` goes through the words; the sum stays below its modulus.
 use Prim.Native.Nat.{_-_, _≤_, _<_}
 use native.Mathlib.Omega.{arith}
 use borrow.Author.Needs.{needs}

@@ -1,4 +1,4 @@
--- `tree` lends the store eight times and keeps its length. Assumes nothing.
+-- `tree` lends the store eight times and keeps its length.
 use mathlib.Core.Path.{_∙_}
 use borrow.Author.Needs.{needs}
 use Rattle.cases_tree.proofs.tree.Statement.{statement}

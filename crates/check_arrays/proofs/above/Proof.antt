@@ -1,4 +1,4 @@
--- `above` walks until the pair is met. Assumes nothing.
+-- `above` walks until the pair is met.
 use mathlib.Core.Path.{_≡_, refl}
 use Prim.Native.Nat.{_-_, _≤_}
 use native.Mathlib.Omega.{arith}
@@ -22,7 +22,9 @@ pair-requires : tie.Need-pair-requires Inv-loop μ-loop
 pair-requires c κs = search needs
 
 returns : tie.Need-returns Inv-loop μ-loop
-returns c = above-hit _ _ _ _ (c .before .before .before .loop .inv .1) _ (c .before .before .before .loop .inv .0) (c .before .before .loop-test .taken) _ (c .before .pair .ensures) (c .if1 .taken)
+returns c =
+    let loop = c .before .before .before .loop in
+    above-hit _ _ _ _ (loop .inv .1) _ (loop .inv .0) (c .before .before .loop-test .taken) _ (c .before .pair .ensures) (c .if1 .taken)
 
 add-j : tie.Need-add-j Inv-loop μ-loop
 add-j c = omega arith
@@ -31,10 +33,14 @@ loop-less : tie.Need-loop-less Inv-loop μ-loop
 loop-less c = omega arith
 
 loop-again : tie.Need-loop-again Inv-loop μ-loop
-loop-again c = (above-on _ _ _ _ (c .before .before .before .loop .inv .1) _ (c .before .before .before .loop .inv .0) (c .before .before .loop-test .taken) _ (c .before .pair .ensures) (c .if1 .left), omega arith)
+loop-again c =
+    let loop = c .before .before .before .loop in
+    (above-on _ _ _ _ (loop .inv .1) _ (loop .inv .0) (c .before .before .loop-test .taken) _ (c .before .pair .ensures) (c .if1 .left), omega arith)
 
 returns-2 : tie.Need-returns-2 Inv-loop μ-loop
-returns-2 c = above-end _ _ _ _ (c .before .loop .inv .1) _ (c .before .loop .inv .0) (c .loop-test .left)
+returns-2 c =
+    let loop = c .before .loop in
+    above-end _ _ _ _ (loop .inv .1) _ (loop .inv .0) (c .loop-test .left)
 
 pub above-spec : {M : Type 1} → statement M
 above-spec =

@@ -1,4 +1,4 @@
--- `among` walks until the number is met. Assumes nothing.
+-- `among` walks until the number is met.
 use mathlib.Core.Path.{_≡_, refl}
 use Prim.Native.Nat.{_-_, _≤_}
 use native.Mathlib.Omega.{arith}

@@ -1,4 +1,4 @@
--- `between` stops at the first number out of range. Assumes nothing.
+-- `between` stops at the first number out of range.
 use mathlib.Core.Path.{_≡_}
 use mathlib.Core.Bool.{_&&_}
 use Prim.Native.Nat.{_-_, _≤_}

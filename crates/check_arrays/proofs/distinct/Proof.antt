@@ -1,4 +1,4 @@
--- `distinct` tests each number against those after it. Assumes nothing.
+-- `distinct` tests each number against those after it.
 use mathlib.Core.Path.{_≡_, refl}
 use Prim.Native.Nat.{_+_, _-_, _≤_}
 use native.Mathlib.Omega.{arith}
@@ -43,7 +43,10 @@ among-requires : tie.Need-among-requires Inv-loop μ-loop
 among-requires c κs = search needs
 
 returns : tie.Need-returns Inv-loop μ-loop
-returns c = distinct-stop _ _ _ (c .before .before .before .before .before .loop .inv .0) (c .before .before .before .before .loop-test .taken) (part-among (c .before .before .before .before .before .before .before .args .xs .now) (c .before .before .before .before .before .loop .i + 1) (getD (c .before .before .before .before .before .before .before .args .xs .now) (c .before .before .before .before .before .loop .i) 0) _ (c .before .among .ensures) (c .if1 .taken))
+returns c =
+    let loop = c .before .before .before .before .before .loop in
+    let args = c .before .before .before .before .before .before .before .args in
+    distinct-stop _ _ _ (loop .inv .0) (c .before .before .before .before .loop-test .taken) (part-among (args .xs .now) (loop .i + 1) (getD (args .xs .now) (loop .i) 0) _ (c .before .among .ensures) (c .if1 .taken))
 
 add-i : tie.Need-add-i Inv-loop μ-loop
 add-i c = omega arith
@@ -52,7 +55,10 @@ loop-less : tie.Need-loop-less Inv-loop μ-loop
 loop-less c = omega arith
 
 loop-again : tie.Need-loop-again Inv-loop μ-loop
-loop-again c = (distinct-on _ _ _ (c .before .before .before .before .before .loop .inv .0) (c .before .before .before .before .loop-test .taken) (part-among (c .before .before .before .before .before .before .before .args .xs .now) (c .before .before .before .before .before .loop .i + 1) (getD (c .before .before .before .before .before .before .before .args .xs .now) (c .before .before .before .before .before .loop .i) 0) _ (c .before .among .ensures) (c .if1 .left)), omega arith)
+loop-again c =
+    let loop = c .before .before .before .before .before .loop in
+    let args = c .before .before .before .before .before .before .before .args in
+    (distinct-on _ _ _ (loop .inv .0) (c .before .before .before .before .loop-test .taken) (part-among (args .xs .now) (loop .i + 1) (getD (args .xs .now) (loop .i) 0) _ (c .before .among .ensures) (c .if1 .left)), omega arith)
 
 returns-2 : tie.Need-returns-2 Inv-loop μ-loop
 returns-2 c = distinct-end _ _ _ (c .before .loop .inv .0) (c .loop-test .left)

@@ -1,4 +1,4 @@
--- `pair` compares both numbers. Assumes nothing.
+-- `pair` compares both numbers.
 use Prim.Native.Nat.{_-_}
 use native.Mathlib.Omega.{arith}
 use borrow.Author.Needs.{needs}
@@ -19,7 +19,9 @@ cast-if1 : tie.Need-cast-if1
 cast-if1 c = omega (arith, c .shared-slice-known .given (c .before .args .j - 1))
 
 returns : tie.Need-returns
-returns c = pair-no (c .before .before .args .xs .now) (c .before .before .args .j) (c .before .before .args .i) (c .before .before .args .n) (c .if1 .taken)
+returns c =
+    let args = c .before .before .args in
+    pair-no (args .xs .now) (args .j) (args .i) (args .n) (c .if1 .taken)
 
 mul-result : tie.Need-mul-result
 mul-result c = search needs
@@ -28,7 +30,9 @@ shared-slice-read-result : tie.Need-shared-slice-read-result
 shared-slice-read-result c = search needs
 
 returns-2 : tie.Need-returns-2
-returns-2 c = pair-yes (c .before .before .before .args .xs .now) (c .before .before .before .args .j) (c .before .before .before .args .i) (c .before .before .before .args .n) (c .before .if1 .left)
+returns-2 c =
+    let args = c .before .before .before .args in
+    pair-yes (args .xs .now) (args .j) (args .i) (args .n) (c .before .if1 .left)
 
 pub pair-spec : {M : Type 1} → statement M
 pair-spec =

@@ -1,4 +1,4 @@
--- `slots_within` stops at the first unused slot that is not 0. Assumes nothing.
+-- `slots_within` stops at the first unused slot that is not 0.
 use mathlib.Core.Path.{_≡_}
 use Prim.Native.Nat.{_-_, _≤_}
 use native.Mathlib.Omega.{arith}
@@ -17,10 +17,14 @@ abbrev μ-loop : tie.MeasureT-loop
 μ-loop slots used i₀ i = length slots - i
 
 returns : tie.Need-returns Inv-loop μ-loop
-returns c = slots-over (c .before .args .used) (c .before .args .slots .now) (omega arith)
+returns c =
+    let args = c .before .args in
+    slots-over (args .used) (args .slots .now) (omega arith)
 
 loop-holds : tie.Need-loop-holds Inv-loop μ-loop
-loop-holds c = (slots-start (c .before .args .used) (c .before .args .slots .now) (omega arith), omega arith)
+loop-holds c =
+    let args = c .before .args in
+    (slots-start (args .used) (args .slots .now) (omega arith), omega arith)
 
 mul-if2 : tie.Need-mul-if2 Inv-loop μ-loop
 mul-if2 c = omega arith

@@ -1,4 +1,4 @@
--- `ends_in` tests the node that the last bucket links. Assumes nothing.
+-- `ends_in` tests the node that the last bucket links.
 use mathlib.Core.Path.{sym, _∙_}
 use borrow.Author.Needs.{needs}
 use borrow.Author.Tests.{not-true, not-false}

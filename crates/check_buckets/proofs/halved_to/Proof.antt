@@ -1,4 +1,4 @@
--- `halved_to` tests the halving, then the link. Assumes nothing.
+-- `halved_to` tests the halving, then the link.
 use mathlib.Core.Path.{sym, _∙_}
 use borrow.Author.Needs.{needs}
 use borrow.Author.Tests.{not-true, not-false}

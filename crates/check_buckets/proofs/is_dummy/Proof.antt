@@ -1,4 +1,4 @@
--- `is_dummy` tests that a node is neither join nor leaf. Assumes nothing.
+-- `is_dummy` tests that a node is neither join nor leaf.
 use mathlib.Core.Path.{sym, ap, _∙_}
 use mathlib.Core.Bool.{not}
 use borrow.Author.Needs.{needs}

@@ -1,4 +1,4 @@
--- `left_low` reads the left link's maximum. Assumes nothing.
+-- `left_low` reads the left link's maximum.
 use borrow.Author.Needs.{needs}
 use Rattle.check_buckets.specs.Links.{left-low}
 use Rattle.check_buckets.proofs.Buckets.{low-is}

@@ -1,4 +1,4 @@
--- `lefts_low` stops at the first bucket whose left maximum is too high. Assumes nothing.
+-- `lefts_low` stops at the first bucket whose left maximum is too high.
 use mathlib.Core.Path.{_≡_, refl, sym, _∙_}
 use mathlib.Core.List.{List}
 use Prim.Native.Nat.{_-_, _≤_}

@@ -1,4 +1,4 @@
--- `link_right` asks the last bucket and the others as the rule does. Assumes nothing.
+-- `link_right` asks the last bucket and the others as the rule does.
 use mathlib.Core.Path.{_∙_}
 use borrow.Author.Needs.{needs}
 use Rattle.check_buckets.proofs.Buckets.{link-last, link-next}
@@ -18,7 +18,9 @@ ends-in-requires : tie.Need-ends-in-requires
 ends-in-requires c κs = search needs
 
 returns : tie.Need-returns
-returns c = λ rs h. c .ends-in .ensures rs h ∙ link-last rs (c .before .before .before .before .before .args .wait) (c .before .before .before .before .before .args .buckets .now) (c .before .before .before .before .before .args .j) (c .before .before .before .before .before .pre) (c .before .before .if1 .taken)
+returns c =
+    let args = c .before .before .before .before .before .args in
+    λ rs h. c .ends-in .ensures rs h ∙ link-last rs (args .wait) (args .buckets .now) (args .j) (c .before .before .before .before .before .pre) (c .before .before .if1 .taken)
 
 mul-halved-to : tie.Need-mul-halved-to
 mul-halved-to c = search needs
@@ -39,7 +41,9 @@ halved-to-requires : tie.Need-halved-to-requires
 halved-to-requires c κs = search needs
 
 returns-2 : tie.Need-returns-2
-returns-2 c = λ rs h. c .halved-to .ensures rs h ∙ link-next rs (c .before .before .before .before .before .before .args .wait) (c .before .before .before .before .before .before .args .buckets .now) (c .before .before .before .before .before .before .args .j) (c .before .before .before .before .before .before .pre) (c .before .before .before .if1 .left)
+returns-2 c =
+    let args = c .before .before .before .before .before .before .args in
+    λ rs h. c .halved-to .ensures rs h ∙ link-next rs (args .wait) (args .buckets .now) (args .j) (c .before .before .before .before .before .before .pre) (c .before .before .before .if1 .left)
 
 pub link-right-spec : {M : Type 1} → statement M
 link-right-spec =

@@ -1,4 +1,4 @@
--- `linked` stops at the first bucket that is not linked as it should be. Assumes nothing.
+-- `linked` stops at the first bucket that is not linked as it should be.
 use mathlib.Core.Path.{_≡_, refl, sym, _∙_}
 use mathlib.Core.List.{List}
 use Prim.Native.Nat.{_-_, _≤_}

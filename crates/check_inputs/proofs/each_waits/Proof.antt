@@ -1,4 +1,4 @@
--- `each_waits` stops at the first input that does not wait. Assumes nothing.
+-- `each_waits` stops at the first input that does not wait.
 use mathlib.Core.Path.{_≡_, sym, _∙_}
 use mathlib.Core.List.{List}
 use Prim.Native.Nat.{_-_, _≤_}

@@ -1,4 +1,4 @@
--- `is_entry` compares kind and node. Assumes nothing.
+-- `is_entry` compares kind and node.
 use Rattle.check_inputs.proofs.Inputs.{entry-other, entry-node}
 use Rattle.check_inputs.proofs.is_entry.Statement.{statement}
 use Rattle.check_inputs.proofs.is_entry.Tie as tie

@@ -1,4 +1,4 @@
--- `leaves_first` stops at the first input that is no leaf. Assumes nothing.
+-- `leaves_first` stops at the first input that is no leaf.
 use mathlib.Core.Path.{_≡_, sym, _∙_}
 use mathlib.Core.List.{List}
 use Prim.Native.Nat.{ℕ, _-_, _≤_}

@@ -1,4 +1,4 @@
--- `lowest` goes past each variable. Assumes nothing.
+-- `lowest` goes past each variable.
 use mathlib.Core.Path.{_≡_}
 use mathlib.Core.Bool.{_&&_}
 use mathlib.Core.List.{List}

@@ -1,4 +1,4 @@
--- `variable` reads a leaf's literal. Assumes nothing.
+-- `variable` reads a leaf's literal.
 use mathlib.Core.Path.{_∙_}
 use borrow.Author.Needs.{needs}
 use Rattle.rules.specs.Records.{nodeAt}

@@ -1,4 +1,4 @@
--- `waits_from` walks until the node is met. Assumes nothing.
+-- `waits_from` walks until the node is met.
 use mathlib.Core.Path.{_≡_, refl, sym, _∙_, subst}
 use mathlib.Core.List.{List}
 use Prim.Native.Nat.{ℕ, _-_, _≤_, _<_}
@@ -30,7 +30,9 @@ is-entry-requires : tie.Need-is-entry-requires Inv-loop μ-loop
 is-entry-requires c κs = search needs
 
 returns : tie.Need-returns Inv-loop μ-loop
-returns c = λ rs h. search-hit (is-entry (c .before .before .before .before .before .before .args .n)) unknown rs _ _ (c .before .before .before .before .loop .inv rs h) (subst (λ (n : ℕ). c .before .before .before .before .loop .i < n) (h .count-is) (c .before .before .before .loop-test .taken)) (sym (c .before .is-entry .ensures _ (c .before .before .read .ensures rs h)) ∙ c .if1 .taken)
+returns c =
+    let loop = c .before .before .before .before .loop in
+    λ rs h. search-hit (is-entry (c .before .before .before .before .before .before .args .n)) unknown rs _ _ (loop .inv rs h) (subst (λ (n : ℕ). loop .i < n) (h .count-is) (c .before .before .before .loop-test .taken)) (sym (c .before .is-entry .ensures _ (c .before .before .read .ensures rs h)) ∙ c .if1 .taken)
 
 add-i : tie.Need-add-i Inv-loop μ-loop
 add-i c = omega arith
@@ -39,10 +41,14 @@ loop-less : tie.Need-loop-less Inv-loop μ-loop
 loop-less c = omega arith
 
 loop-again : tie.Need-loop-again Inv-loop μ-loop
-loop-again c = λ rs h. search-on (is-entry (c .before .before .before .before .before .before .args .n)) unknown rs _ _ (c .before .before .before .before .loop .inv rs h) (subst (λ (n : ℕ). c .before .before .before .before .loop .i < n) (h .count-is) (c .before .before .before .loop-test .taken)) (sym (c .before .is-entry .ensures _ (c .before .before .read .ensures rs h)) ∙ c .if1 .left)
+loop-again c =
+    let loop = c .before .before .before .before .loop in
+    λ rs h. search-on (is-entry (c .before .before .before .before .before .before .args .n)) unknown rs _ _ (loop .inv rs h) (subst (λ (n : ℕ). loop .i < n) (h .count-is) (c .before .before .before .loop-test .taken)) (sym (c .before .is-entry .ensures _ (c .before .before .read .ensures rs h)) ∙ c .if1 .left)
 
 returns-2 : tie.Need-returns-2 Inv-loop μ-loop
-returns-2 c = λ rs h. search-end (is-entry (c .before .before .before .args .n)) unknown rs _ _ (c .before .loop .inv rs h) (subst (λ (n : ℕ). n ≤ c .before .loop .i) (h .count-is) (c .loop-test .left))
+returns-2 c =
+    let loop = c .before .loop in
+    λ rs h. search-end (is-entry (c .before .before .before .args .n)) unknown rs _ _ (loop .inv rs h) (subst (λ (n : ℕ). n ≤ loop .i) (h .count-is) (c .loop-test .left))
 
 pub waits-from-spec : {M : Type 1} → statement M
 waits-from-spec =

@@ -1,4 +1,4 @@
--- `kinds_known` stops at the first eight words that are no record. Assumes nothing.
+-- `kinds_known` stops at the first eight words that are no record.
 use mathlib.Core.Path.{_≡_, sym, _∙_}
 use Prim.Native.Nat.{_*_, _-_, _≤_}
 use native.Mathlib.Omega.{arith}

@@ -1,4 +1,4 @@
--- `known_at` tests the two words that no record uses, then the others. Assumes nothing.
+-- `known_at` tests the two words that no record uses, then the others.
 use mathlib.Core.Path.{sym, ap, _∙_}
 use Prim.Native.Nat.{ℕ}
 use borrow.Author.Needs.{needs}

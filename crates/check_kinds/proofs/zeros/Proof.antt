@@ -1,4 +1,4 @@
--- `zeros` tests the three numbers. Assumes nothing.
+-- `zeros` tests the three numbers.
 use mathlib.Core.Path.{refl}
 use borrow.Author.Tests.{eq-eqb, ne-eqb}
 use Rattle.check_arrays.proofs.Walk.{fail-here, pass-here}

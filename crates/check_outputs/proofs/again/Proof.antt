@@ -1,4 +1,4 @@
--- `again` looks an output up among the later records. Assumes nothing.
+-- `again` looks an output up among the later records.
 use mathlib.Core.Path.{_∙_}
 use borrow.Author.Needs.{needs}
 use Rattle.check_outputs.proofs.Outputs.{again-other, again-output}

@@ -1,4 +1,4 @@
--- `defined_from` walks until the output is met. Assumes nothing.
+-- `defined_from` walks until the output is met.
 use mathlib.Core.Path.{_≡_, refl, sym, _∙_, subst}
 use mathlib.Core.List.{List}
 use Prim.Native.Nat.{ℕ, _-_, _≤_, _<_}
@@ -30,7 +30,10 @@ is-output-requires : tie.Need-is-output-requires Inv-loop μ-loop
 is-output-requires c κs = search needs
 
 returns : tie.Need-returns Inv-loop μ-loop
-returns c = λ rs h. search-hit (λ r. is-output r (c .before .before .before .before .before .before .args .n) (c .before .before .before .before .before .before .args .v)) unknown rs _ _ (c .before .before .before .before .loop .inv rs h) (subst (λ (n : ℕ). c .before .before .before .before .loop .i < n) (h .count-is) (c .before .before .before .loop-test .taken)) (sym (c .before .is-output .ensures _ (c .before .before .read .ensures rs h)) ∙ c .if1 .taken)
+returns c =
+    let loop = c .before .before .before .before .loop in
+    let args = c .before .before .before .before .before .before .args in
+    λ rs h. search-hit (λ r. is-output r (args .n) (args .v)) unknown rs _ _ (loop .inv rs h) (subst (λ (n : ℕ). loop .i < n) (h .count-is) (c .before .before .before .loop-test .taken)) (sym (c .before .is-output .ensures _ (c .before .before .read .ensures rs h)) ∙ c .if1 .taken)
 
 add-i : tie.Need-add-i Inv-loop μ-loop
 add-i c = omega arith
@@ -39,10 +42,16 @@ loop-less : tie.Need-loop-less Inv-loop μ-loop
 loop-less c = omega arith
 
 loop-again : tie.Need-loop-again Inv-loop μ-loop
-loop-again c = λ rs h. search-on (λ r. is-output r (c .before .before .before .before .before .before .args .n) (c .before .before .before .before .before .before .args .v)) unknown rs _ _ (c .before .before .before .before .loop .inv rs h) (subst (λ (n : ℕ). c .before .before .before .before .loop .i < n) (h .count-is) (c .before .before .before .loop-test .taken)) (sym (c .before .is-output .ensures _ (c .before .before .read .ensures rs h)) ∙ c .if1 .left)
+loop-again c =
+    let loop = c .before .before .before .before .loop in
+    let args = c .before .before .before .before .before .before .args in
+    λ rs h. search-on (λ r. is-output r (args .n) (args .v)) unknown rs _ _ (loop .inv rs h) (subst (λ (n : ℕ). loop .i < n) (h .count-is) (c .before .before .before .loop-test .taken)) (sym (c .before .is-output .ensures _ (c .before .before .read .ensures rs h)) ∙ c .if1 .left)
 
 returns-2 : tie.Need-returns-2 Inv-loop μ-loop
-returns-2 c = λ rs h. search-end (λ r. is-output r (c .before .before .before .args .n) (c .before .before .before .args .v)) unknown rs _ _ (c .before .loop .inv rs h) (subst (λ (n : ℕ). n ≤ c .before .loop .i) (h .count-is) (c .loop-test .left))
+returns-2 c =
+    let loop = c .before .loop in
+    let args = c .before .before .before .args in
+    λ rs h. search-end (λ r. is-output r (args .n) (args .v)) unknown rs _ _ (loop .inv rs h) (subst (λ (n : ℕ). n ≤ loop .i) (h .count-is) (c .loop-test .left))
 
 pub defined-from-spec : {M : Type 1} → statement M
 defined-from-spec =

@@ -1,4 +1,4 @@
--- `is_output` compares kind, node and value. Assumes nothing.
+-- `is_output` compares kind, node and value.
 use Rattle.check_outputs.proofs.Outputs.{none-other, output-elsewhere, output-here}
 use Rattle.check_outputs.proofs.is_output.Statement.{statement}
 use Rattle.check_outputs.proofs.is_output.Tie as tie

@@ -1,4 +1,4 @@
--- `next_low` goes past an output's number. Assumes nothing.
+-- `next_low` goes past an output's number.
 use borrow.Author.Needs.{needs}
 use Rattle.check_outputs.proofs.Outputs.{low-other, low-output}
 use Rattle.check_outputs.proofs.next_low.Statement.{statement}

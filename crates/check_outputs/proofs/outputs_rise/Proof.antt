@@ -1,4 +1,4 @@
--- `outputs_rise` keeps the least number that the next output may have. Assumes nothing.
+-- `outputs_rise` keeps the least number that the next output may have.
 use mathlib.Core.Path.{_≡_, refl, sym, _∙_, subst}
 use mathlib.Core.List.{List}
 use Prim.Native.Nat.{ℕ, _-_, _≤_, _<_}
@@ -31,7 +31,9 @@ rises-requires : tie.Need-rises-requires Inv-loop μ-loop
 rises-requires c κs = search needs
 
 returns : tie.Need-returns Inv-loop μ-loop
-returns c = λ rs h. rise-stop rs _ _ _ (c .before .before .before .before .loop .inv .0 rs h) (subst (λ (n : ℕ). c .before .before .before .before .loop .i < n) (h .count-is) (c .before .before .before .loop-test .taken)) (sym (c .before .rises .ensures _ (c .before .before .read .ensures rs h)) ∙ not-true _ (c .if1 .taken))
+returns c =
+    let loop = c .before .before .before .before .loop in
+    λ rs h. rise-stop rs _ _ _ (loop .inv .0 rs h) (subst (λ (n : ℕ). loop .i < n) (h .count-is) (c .before .before .before .loop-test .taken)) (sym (c .before .rises .ensures _ (c .before .before .read .ensures rs h)) ∙ not-true _ (c .if1 .taken))
 
 next-low-requires : tie.Need-next-low-requires Inv-loop μ-loop
 next-low-requires c κs = search needs
@@ -43,10 +45,15 @@ loop-less : tie.Need-loop-less Inv-loop μ-loop
 loop-less c = omega arith
 
 loop-again : tie.Need-loop-again Inv-loop μ-loop
-loop-again c = (λ rs h. rise-on rs _ _ _ (c .before .before .before .before .before .loop .inv .0 rs h) (subst (λ (n : ℕ). c .before .before .before .before .before .loop .i < n) (h .count-is) (c .before .before .before .before .loop-test .taken)) _ (c .next-low .ensures _ (c .before .before .before .read .ensures rs h)) (sym (c .before .before .rises .ensures _ (c .before .before .before .read .ensures rs h)) ∙ not-false _ (c .before .if1 .left)), omega arith)
+loop-again c =
+    let read = c .before .before .before .read in
+    let loop = c .before .before .before .before .before .loop in
+    (λ rs h. rise-on rs _ _ _ (loop .inv .0 rs h) (subst (λ (n : ℕ). loop .i < n) (h .count-is) (c .before .before .before .before .loop-test .taken)) _ (c .next-low .ensures _ (read .ensures rs h)) (sym (c .before .before .rises .ensures _ (read .ensures rs h)) ∙ not-false _ (c .before .if1 .left)), omega arith)
 
 returns-2 : tie.Need-returns-2 Inv-loop μ-loop
-returns-2 c = λ rs h. rise-end rs _ _ _ (c .before .loop .inv .0 rs h) (subst (λ (n : ℕ). n ≤ c .before .loop .i) (h .count-is) (c .loop-test .left))
+returns-2 c =
+    let loop = c .before .loop in
+    λ rs h. rise-end rs _ _ _ (loop .inv .0 rs h) (subst (λ (n : ℕ). n ≤ loop .i) (h .count-is) (c .loop-test .left))
 
 pub outputs-rise-spec : {M : Type 1} → statement M
 outputs-rise-spec =

@@ -1,4 +1,4 @@
--- `record_cost` picks what an entry costs. Assumes nothing.
+-- `record_cost` picks what an entry costs.
 use borrow.Author.Needs.{needs}
 use Rattle.check_outputs.proofs.Entries.{cost-other, cost-count, cost-maximum, cost-weight}
 use Rattle.check_outputs.proofs.record_cost.Statement.{statement}

@@ -1,4 +1,4 @@
--- `rises` tests an output's number. Assumes nothing.
+-- `rises` tests an output's number.
 use borrow.Author.Needs.{needs}
 use Rattle.check_outputs.proofs.Outputs.{rises-other, rises-output}
 use Rattle.check_outputs.proofs.rises.Statement.{statement}

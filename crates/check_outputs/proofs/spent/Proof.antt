@@ -1,4 +1,4 @@
--- `spent` takes each cost off what is left. Assumes nothing.
+-- `spent` takes each cost off what is left.
 use mathlib.Core.Path.{_≡_, refl, subst}
 use mathlib.Core.List.{List}
 use Prim.Native.Nat.{ℕ, _-_, _≤_, _<_}
@@ -25,7 +25,9 @@ record-cost-requires : tie.Need-record-cost-requires Inv-loop μ-loop
 record-cost-requires c κs = search needs
 
 returns : tie.Need-returns Inv-loop μ-loop
-returns c = λ rs h. budget-over rs _ _ _ _ (c .before .before .before .loop .inv .0 rs h) (subst (λ (n : ℕ). c .before .before .before .loop .i < n) (h .count-is) (c .before .before .loop-test .taken)) _ (c .before .record-cost .ensures rs h) (c .if1 .taken)
+returns c =
+    let loop = c .before .before .before .loop in
+    λ rs h. budget-over rs _ _ _ _ (loop .inv .0 rs h) (subst (λ (n : ℕ). loop .i < n) (h .count-is) (c .before .before .loop-test .taken)) _ (c .before .record-cost .ensures rs h) (c .if1 .taken)
 
 add-i : tie.Need-add-i Inv-loop μ-loop
 add-i c = omega arith
@@ -34,10 +36,14 @@ loop-less : tie.Need-loop-less Inv-loop μ-loop
 loop-less c = omega arith
 
 loop-again : tie.Need-loop-again Inv-loop μ-loop
-loop-again c = (λ rs h. budget-on rs _ _ _ _ (c .before .before .before .loop .inv .0 rs h) (subst (λ (n : ℕ). c .before .before .before .loop .i < n) (h .count-is) (c .before .before .loop-test .taken)) _ (c .before .record-cost .ensures rs h) (c .if1 .left), omega arith)
+loop-again c =
+    let loop = c .before .before .before .loop in
+    (λ rs h. budget-on rs _ _ _ _ (loop .inv .0 rs h) (subst (λ (n : ℕ). loop .i < n) (h .count-is) (c .before .before .loop-test .taken)) _ (c .before .record-cost .ensures rs h) (c .if1 .left), omega arith)
 
 returns-2 : tie.Need-returns-2 Inv-loop μ-loop
-returns-2 c = λ rs h. budget-end rs _ _ _ _ (c .before .loop .inv .0 rs h) (subst (λ (n : ℕ). n ≤ c .before .loop .i) (h .count-is) (c .loop-test .left))
+returns-2 c =
+    let loop = c .before .loop in
+    λ rs h. budget-end rs _ _ _ _ (loop .inv .0 rs h) (subst (λ (n : ℕ). n ≤ loop .i) (h .count-is) (c .loop-test .left))
 
 pub spent-spec : {M : Type 1} → statement M
 spent-spec =

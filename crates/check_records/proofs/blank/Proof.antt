@@ -1,4 +1,4 @@
--- `blank` tests both numbers. Assumes nothing.
+-- `blank` tests both numbers.
 use mathlib.Core.Path.{refl}
 use borrow.Author.Tests.{eq-eqb, ne-eqb}
 use Rattle.check_arrays.proofs.Walk.{fail-here, pass-here}

@@ -1,4 +1,4 @@
--- `counted` halves where the word is 1. Assumes nothing.
+-- `counted` halves where the word is 1.
 use mathlib.Core.Path.{sym, ap}
 use mathlib.Core.Bool.{Bool}
 use borrow.Author.Tests.{eq-eqb, ne-eqb}

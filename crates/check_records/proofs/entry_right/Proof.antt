@@ -1,4 +1,4 @@
--- `entry_right` tests the node and the weight. Assumes nothing.
+-- `entry_right` tests the node and the weight.
 use mathlib.Core.Path.{sym, ap, _∙_}
 use mathlib.Core.Bool.{not}
 use borrow.Author.Needs.{needs}

@@ -1,4 +1,4 @@
--- `is_leaf` tests for kind 1. Assumes nothing.
+-- `is_leaf` tests for kind 1.
 use borrow.Author.Needs.{needs}
 use Rattle.check_records.proofs.Right.{leaf-is}
 use Rattle.check_records.proofs.is_leaf.Statement.{statement}

@@ -1,4 +1,4 @@
--- `is_node` tests for the kinds 1 to 3. Assumes nothing.
+-- `is_node` tests for the kinds 1 to 3.
 use borrow.Author.Needs.{needs}
 use Rattle.check_records.proofs.Right.{node-none, node-some}
 use Rattle.check_records.proofs.is_node.Statement.{statement}

@@ -1,4 +1,4 @@
--- `join_right` tests the links, the bound and the totalizer rule, whose sums fit 64 bits. Assumes nothing.
+-- `join_right` tests the links, the bound and the totalizer rule, whose sums fit 64 bits.
 use mathlib.Core.Path.{sym, ap, ap₂, _∙_}
 use Prim.Native.Nat.{ℕ, _+_, max}
 use borrow.Author.Needs.{needs}
@@ -73,7 +73,9 @@ add-result c = search needs
 
 returns-5 : tie.Need-returns-5
 unfolding kind-right
-returns-5 c = λ rs h. pass-here _ _ _ (sym (c .before .before .before .before .before .before .before .before .before .before .before .before .before .before .is-node .ensures rs h) ∙ not-false _ (c .before .before .before .before .before .before .before .before .before .before .before .before .before .if1 .left)) (pass-here _ _ _ (sym (c .before .before .before .before .before .before .before .before .before .before .before .before .is-node2 .ensures rs h) ∙ not-false _ (c .before .before .before .before .before .before .before .before .before .before .before .if2 .left)) (pass-here _ _ _ (le-leb _ 513 (c .before .before .before .before .before .before .before .before .before .if3 .left)) (pass-here _ _ _ (eq-eqb _ _ (c .before .before .before .before .if4 .left ∙ ap₂ _+_ (c .before .before .before .before .before .before .before .before .maximum .ensures rs h) (c .before .before .before .before .before .before .counted .ensures ∙ ap (counts (eqb (c .before .before .before .before .before .before .before .before .before .before .before .before .before .before .before .before .args .f .c) 1)) (c .before .before .before .before .before .before .before .maximum2 .ensures rs h)))) (ap (λ (x : ℕ). eqb (c .before .before .before .before .before .before .before .before .before .before .before .before .before .before .before .before .args .f .height) (x + 1)) (c .before .larger .ensures ∙ ap₂ max (c .before .before .before .height .ensures rs h) (c .before .before .height2 .ensures rs h))))))
+returns-5 c =
+    let args = c .before .before .before .before .before .before .before .before .before .before .before .before .before .before .before .before .args in
+    λ rs h. pass-here _ _ _ (sym (c .before .before .before .before .before .before .before .before .before .before .before .before .before .before .is-node .ensures rs h) ∙ not-false _ (c .before .before .before .before .before .before .before .before .before .before .before .before .before .if1 .left)) (pass-here _ _ _ (sym (c .before .before .before .before .before .before .before .before .before .before .before .before .is-node2 .ensures rs h) ∙ not-false _ (c .before .before .before .before .before .before .before .before .before .before .before .if2 .left)) (pass-here _ _ _ (le-leb _ 513 (c .before .before .before .before .before .before .before .before .before .if3 .left)) (pass-here _ _ _ (eq-eqb _ _ (c .before .before .before .before .if4 .left ∙ ap₂ _+_ (c .before .before .before .before .before .before .before .before .maximum .ensures rs h) (c .before .before .before .before .before .before .counted .ensures ∙ ap (counts (eqb (args .f .c) 1)) (c .before .before .before .before .before .before .before .maximum2 .ensures rs h)))) (ap (λ (x : ℕ). eqb (args .f .height) (x + 1)) (c .before .larger .ensures ∙ ap₂ max (c .before .before .before .height .ensures rs h) (c .before .before .height2 .ensures rs h))))))
 
 pub join-right-spec : {M : Type 1} → statement M
 join-right-spec =

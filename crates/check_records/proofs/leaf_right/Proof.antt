@@ -1,4 +1,4 @@
--- `leaf_right` tests maximum, height and variable. Assumes nothing.
+-- `leaf_right` tests maximum, height and variable.
 use mathlib.Core.Path.{sym, ap, _∙_}
 use Prim.Native.Nat.{ℕ}
 use borrow.Author.Needs.{needs}
@@ -27,7 +27,9 @@ returns-3 c = λ rs. pass-here _ _ _ (eq-eqb _ 1 (c .before .before .before .if1
 
 returns-4 : tie.Need-returns-4
 unfolding kind-right lawful
-returns-4 c = λ rs. pass-here _ _ _ (eq-eqb _ 1 (c .before .before .before .if1 .left)) (pass-here _ _ _ (eq-eqb _ 0 (c .before .before .if2 .left)) (pass-here _ _ _ (ap (leb 1) (sym (c .before .variable .ensures)) ∙ le-leb 1 _ (c .if3 .left)) (ap (λ (x : ℕ). leb x 1000000000) (c .before .variable .ensures))))
+returns-4 c =
+    let variable = c .before .variable in
+    λ rs. pass-here _ _ _ (eq-eqb _ 1 (c .before .before .before .if1 .left)) (pass-here _ _ _ (eq-eqb _ 0 (c .before .before .if2 .left)) (pass-here _ _ _ (ap (leb 1) (sym (variable .ensures)) ∙ le-leb 1 _ (c .if3 .left)) (ap (λ (x : ℕ). leb x 1000000000) (variable .ensures))))
 
 pub leaf-right-spec : {M : Type 1} → statement M
 leaf-right-spec = tie.close (tie.spec returns returns-2 variable-requires returns-3 returns-4)

@@ -1,4 +1,4 @@
--- `order_at` looks at the record after a waiting entry. Assumes nothing.
+-- `order_at` looks at the record after a waiting entry.
 use mathlib.Core.Path.{ap}
 use native.Mathlib.Omega.{arith}
 use borrow.Author.Needs.{needs}

@@ -1,4 +1,4 @@
--- `output_right` tests the node, the value, the number. Assumes nothing.
+-- `output_right` tests the node, the value, the number.
 use mathlib.Core.Path.{sym, ap, _∙_}
 use mathlib.Core.Bool.{not}
 use borrow.Author.Needs.{needs}

@@ -1,4 +1,4 @@
--- `place_right` tests the record, the order, the links. Assumes nothing.
+-- `place_right` tests the record, the order, the links.
 use mathlib.Core.Path.{sym, _∙_}
 use borrow.Author.Needs.{needs}
 use borrow.Author.Tests.{not-true, not-false}
@@ -23,14 +23,18 @@ order-at-requires c κs = search needs
 
 returns-2 : tie.Need-returns-2
 unfolding place-right nodeAt
-returns-2 c = λ rs h. pass-here _ _ _ (sym (c .before .before .before .record-right .ensures rs _ h (c .before .before .before .before .read .ensures rs h)) ∙ not-false _ (c .before .before .if1 .left)) (fail-here _ _ (sym (c .before .order-at .ensures rs h (c .before .before .before .before .read .ensures rs h)) ∙ not-true _ (c .if2 .taken)))
+returns-2 c =
+    let read = c .before .before .before .before .read in
+    λ rs h. pass-here _ _ _ (sym (c .before .before .before .record-right .ensures rs _ h (read .ensures rs h)) ∙ not-false _ (c .before .before .if1 .left)) (fail-here _ _ (sym (c .before .order-at .ensures rs h (read .ensures rs h)) ∙ not-true _ (c .if2 .taken)))
 
 spare-at-requires : tie.Need-spare-at-requires
 spare-at-requires c κs = search needs
 
 returns-3 : tie.Need-returns-3
 unfolding place-right nodeAt
-returns-3 c = λ rs h. pass-here _ _ _ (sym (c .before .before .before .before .record-right .ensures rs _ h (c .before .before .before .before .before .read .ensures rs h)) ∙ not-false _ (c .before .before .before .if1 .left)) (pass-here _ _ _ (sym (c .before .before .order-at .ensures rs h (c .before .before .before .before .before .read .ensures rs h)) ∙ not-false _ (c .before .if2 .left)) (c .spare-at .ensures _ (c .before .before .before .before .before .read .ensures rs h)))
+returns-3 c =
+    let read = c .before .before .before .before .before .read in
+    λ rs h. pass-here _ _ _ (sym (c .before .before .before .before .record-right .ensures rs _ h (read .ensures rs h)) ∙ not-false _ (c .before .before .before .if1 .left)) (pass-here _ _ _ (sym (c .before .before .order-at .ensures rs h (read .ensures rs h)) ∙ not-false _ (c .before .if2 .left)) (c .spare-at .ensures _ (read .ensures rs h)))
 
 pub place-right-spec : {M : Type 1} → statement M
 place-right-spec =

@@ -1,4 +1,4 @@
--- `read` reads the six words that a record uses; the other two are 0. Assumes nothing.
+-- `read` reads the six words that a record uses; the other two are 0.
 use borrow.Author.Needs.{needs}
 use Rattle.check_records.proofs.Right.{read-is}
 use Rattle.check_records.proofs.read.Statement.{statement}

@@ -1,4 +1,4 @@
--- `record_right` tests a record by its kind. Assumes nothing.
+-- `record_right` tests a record by its kind.
 use mathlib.Core.Path.{_∙_}
 use borrow.Author.Needs.{needs}
 use Rattle.check_records.specs.Tests.{output-right, entry-right}

@@ -1,4 +1,4 @@
--- `records_right` stops at the first record that is not right. Assumes nothing.
+-- `records_right` stops at the first record that is not right.
 use mathlib.Core.Path.{_≡_, sym, _∙_}
 use mathlib.Core.List.{List}
 use Prim.Native.Nat.{_-_, _≤_}

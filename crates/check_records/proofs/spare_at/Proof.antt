@@ -1,4 +1,4 @@
--- `spare_at` looks both links of a join up among the buckets. Assumes nothing.
+-- `spare_at` looks both links of a join up among the buckets.
 use mathlib.Core.Bool.{false}
 use borrow.Author.Needs.{needs}
 use Rattle.rules.specs.Lists.{among}

@@ -1,4 +1,4 @@
--- `arrays_within` tests both arrays. Assumes nothing.
+-- `arrays_within` tests both arrays.
 use mathlib.Core.Path.{sym, _∙_}
 use borrow.Author.Needs.{needs}
 use borrow.Author.Tests.{not-true, not-false}
@@ -17,7 +17,9 @@ slots-within-requires c κs = search needs
 
 returns : tie.Need-returns
 unfolding tares-within buckets-within tares-of buckets-of
-returns c = fail-here _ _ (sym (slots-of (c .before .before .before .before .args .s .tares) (c .before .before .before .before .args .s .«tares_used») 19 _ (search needs) (c .before .slots-within .ensures)) ∙ not-true _ (c .if1 .taken))
+returns c =
+    let args = c .before .before .before .before .args in
+    fail-here _ _ (sym (slots-of (args .s .tares) (args .s .«tares_used») 19 _ (search needs) (c .before .slots-within .ensures)) ∙ not-true _ (c .if1 .taken))
 
 slice-aggregate-slots-within-2 : tie.Need-slice-aggregate-slots-within-2
 slice-aggregate-slots-within-2 c = search needs
@@ -27,7 +29,9 @@ slots-within-requires-2 c κs = search needs
 
 returns-2 : tie.Need-returns-2
 unfolding tares-within buckets-within tares-of buckets-of
-returns-2 c = pass-here _ _ _ (sym (slots-of (c .before .before .before .before .before .before .before .args .s .tares) (c .before .before .before .before .before .before .before .args .s .«tares_used») 19 _ (search needs) (c .before .before .before .before .slots-within .ensures)) ∙ not-false _ (c .before .before .before .if1 .left)) (slots-of (c .before .before .before .before .before .before .before .args .s .buckets) (c .before .before .before .before .before .before .before .args .s .«buckets_used») 20 _ (search needs) (c .slots-within2 .ensures))
+returns-2 c =
+    let args = c .before .before .before .before .before .before .before .args in
+    pass-here _ _ _ (sym (slots-of (args .s .tares) (args .s .«tares_used») 19 _ (search needs) (c .before .before .before .before .slots-within .ensures)) ∙ not-false _ (c .before .before .before .if1 .left)) (slots-of (args .s .buckets) (args .s .«buckets_used») 20 _ (search needs) (c .slots-within2 .ensures))
 
 pub arrays-within-spec : {M : Type 1} → statement M
 arrays-within-spec =

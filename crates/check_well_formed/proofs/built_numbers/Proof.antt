@@ -1,4 +1,4 @@
--- `built_numbers` tests the clauses in turn. Assumes nothing.
+-- `built_numbers` tests the clauses in turn.
 use mathlib.Core.Path.{sym, ap, _∙_}
 use Prim.Native.Nat.{suc, _+_}
 use native.Mathlib.Omega.{arith}
@@ -50,7 +50,9 @@ add-result c = search needs
 
 returns-6 : tie.Need-returns-6
 unfolding built-numbers built-numbers-clauses hold all two-inputs built-power built-coarser built-times-weight some-bucket few-buckets
-returns-6 c = pass-here _ _ _ (le-leb 2 _ (c .before .before .before .before .before .before .before .before .before .before .if1 .left)) (pass-here _ _ _ (sym (c .before .before .before .before .before .before .before .before .before .power-of-two .ensures) ∙ not-false _ (c .before .before .before .before .before .before .before .before .if2 .left)) (pass-here _ _ _ (le-leb _ _ (c .before .before .before .before .before .before .if3 .left)) (pass-here _ _ _ (sym (c .before .before .before .before .before .times-weight .ensures) ∙ not-false _ (c .before .before .before .before .if4 .left)) (pass-here _ _ _ (le-leb 1 _ (c .before .before .if5 .left)) (pass-last _ _ (ap (leb (c .before .before .before .before .before .before .before .before .before .before .before .before .args .s .«buckets_used»)) {x = c .before .before .before .before .before .before .before .before .before .before .before .before .args .s .«tares_used» + 1} {y = suc (c .before .before .before .before .before .before .before .before .before .before .before .before .args .s .«tares_used»)} (omega arith)))))))
+returns-6 c =
+    let args = c .before .before .before .before .before .before .before .before .before .before .before .before .args in
+    pass-here _ _ _ (le-leb 2 _ (c .before .before .before .before .before .before .before .before .before .before .if1 .left)) (pass-here _ _ _ (sym (c .before .before .before .before .before .before .before .before .before .power-of-two .ensures) ∙ not-false _ (c .before .before .before .before .before .before .before .before .if2 .left)) (pass-here _ _ _ (le-leb _ _ (c .before .before .before .before .before .before .if3 .left)) (pass-here _ _ _ (sym (c .before .before .before .before .before .times-weight .ensures) ∙ not-false _ (c .before .before .before .before .if4 .left)) (pass-here _ _ _ (le-leb 1 _ (c .before .before .if5 .left)) (pass-last _ _ (ap (leb (args .s .«buckets_used»)) {x = args .s .«tares_used» + 1} {y = suc (args .s .«tares_used»)} (omega arith)))))))
 
 pub built-numbers-spec : {M : Type 1} → statement M
 built-numbers-spec =

@@ -1,4 +1,4 @@
--- `built_right` tests the numbers, then the buckets. Assumes nothing.
+-- `built_right` tests the numbers, then the buckets.
 use mathlib.Core.Path.{sym, ap, ap₂, _∙_}
 use borrow.Author.Needs.{needs}
 use borrow.Author.Tests.{not-true, not-false}

@@ -1,4 +1,4 @@
--- `costs` asks whether the budget was spent exactly. Assumes nothing.
+-- `costs` asks whether the budget was spent exactly.
 use borrow.Author.Needs.{needs}
 use Rattle.check_well_formed.proofs.Ways.{cost-over, cost-left}
 use Rattle.check_well_formed.proofs.costs.Statement.{statement}

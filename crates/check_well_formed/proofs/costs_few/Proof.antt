@@ -1,4 +1,4 @@
--- `costs_few` asks whether the budget was overspent. Assumes nothing.
+-- `costs_few` asks whether the budget was overspent.
 use borrow.Author.Needs.{needs}
 use Rattle.check_well_formed.proofs.Ways.{few-is}
 use Rattle.check_well_formed.proofs.costs_few.Statement.{statement}

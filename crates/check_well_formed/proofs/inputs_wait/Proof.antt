@@ -1,4 +1,4 @@
--- `inputs_wait` counts the entries, then looks each input up among the last records. Assumes nothing.
+-- `inputs_wait` counts the entries, then looks each input up among the last records.
 use Prim.Native.Nat.{_≤_}
 use native.Mathlib.Omega.{arith}
 use borrow.Author.Needs.{needs}
@@ -12,10 +12,14 @@ costs-requires : tie.Need-costs-requires
 costs-requires c κs = search needs
 
 returns : tie.Need-returns
-returns c = λ rs h w. fail-here _ _ (count-other rs (c .before .before .before .args .records) (c .before .before .before .args .inputs) (h .count-is) _ (c .before .costs .ensures rs h) (not-true _ (c .if1 .taken)))
+returns c =
+    let args = c .before .before .before .args in
+    λ rs h w. fail-here _ _ (count-other rs (args .records) (args .inputs) (h .count-is) _ (c .before .costs .ensures rs h) (not-true _ (c .if1 .taken)))
 
 returns-2 : tie.Need-returns-2
-returns-2 c = λ rs h w. let fits : c .before .before .before .before .args .inputs ≤ c .before .before .before .before .args .records = count-fits rs (c .before .before .before .before .args .records) (c .before .before .before .before .args .inputs) (h .count-is) _ (c .before .before .costs .ensures rs h) (not-false _ (c .before .if1 .left)) in absurd (omega arith)
+returns-2 c =
+    let args = c .before .before .before .before .args in
+    λ rs h w. let fits : args .inputs ≤ args .records = count-fits rs (args .records) (args .inputs) (h .count-is) _ (c .before .before .costs .ensures rs h) (not-false _ (c .before .if1 .left)) in absurd (omega arith)
 
 sub-each-waits : tie.Need-sub-each-waits
 sub-each-waits c = search needs
@@ -24,7 +28,11 @@ each-waits-requires : tie.Need-each-waits-requires
 each-waits-requires c κs = search needs
 
 returns-3 : tie.Need-returns-3
-returns-3 c = λ rs h w. pass-here _ _ _ (count-same rs (c .before .before .before .before .before .args .records) (c .before .before .before .before .before .args .inputs) (h .count-is) _ (c .before .before .before .costs .ensures rs h) (not-false _ (c .before .before .if1 .left))) (each-is rs (c .before .before .before .before .before .args .records) (c .before .before .before .before .before .args .inputs) (h .count-is) _ (c .before .before .before .costs .ensures rs h) (not-false _ (c .before .before .if1 .left)) w _ (c .each-waits .ensures rs h))
+returns-3 c =
+    let if1 = c .before .before .if1 in
+    let costs = c .before .before .before .costs in
+    let args = c .before .before .before .before .before .args in
+    λ rs h w. pass-here _ _ _ (count-same rs (args .records) (args .inputs) (h .count-is) _ (costs .ensures rs h) (not-false _ (if1 .left))) (each-is rs (args .records) (args .inputs) (h .count-is) _ (costs .ensures rs h) (not-false _ (if1 .left)) w _ (c .each-waits .ensures rs h))
 
 pub inputs-wait-spec : {M : Type 1} → statement M
 inputs-wait-spec =

@@ -1,4 +1,4 @@
--- `limits` gathers what numbers and weights are compared with. Assumes nothing.
+-- `limits` gathers what numbers and weights are compared with.
 use mathlib.Core.Path.{refl}
 use borrow.Author.Needs.{needs}
 use Rattle.check_well_formed.proofs.limits.Statement.{statement}

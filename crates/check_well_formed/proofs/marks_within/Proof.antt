@@ -1,4 +1,4 @@
--- `marks_within` compares both marks with what is lent. Assumes nothing.
+-- `marks_within` compares both marks with what is lent.
 use mathlib.Core.Path.{refl}
 use Prim.Native.Nat.{_/_, min}
 use native.Mathlib.Omega.{arith}
@@ -12,15 +12,21 @@ use Rattle.check_well_formed.proofs.marks_within.Tie as tie
 
 returns : tie.Need-returns
 unfolding marks-within capacity
-returns c = fail-here _ _ (lt-leb (c .before .before .args .s .records) (min (length (c .before .before .args .store .now) / 8) 4294967296) (omega arith))
+returns c =
+    let args = c .before .before .args in
+    fail-here _ _ (lt-leb (args .s .records) (min (length (args .store .now) / 8) 4294967296) (omega arith))
 
 returns-2 : tie.Need-returns-2
 unfolding marks-within capacity
-returns-2 c = fail-here _ _ (lt-leb (c .before .before .before .before .args .s .records) (min (length (c .before .before .before .before .args .store .now) / 8) 4294967296) (omega arith))
+returns-2 c =
+    let args = c .before .before .before .before .args in
+    fail-here _ _ (lt-leb (args .s .records) (min (length (args .store .now) / 8) 4294967296) (omega arith))
 
 returns-3 : tie.Need-returns-3
 unfolding marks-within capacity
-returns-3 c = pass-here _ _ _ (le-leb (c .before .before .before .before .before .args .s .records) (min (length (c .before .before .before .before .before .args .store .now) / 8) 4294967296) (omega arith)) refl
+returns-3 c =
+    let args = c .before .before .before .before .before .args in
+    pass-here _ _ _ (le-leb (args .s .records) (min (length (args .store .now) / 8) 4294967296) (omega arith)) refl
 
 pub marks-within-spec : {M : Type 1} → statement M
 marks-within-spec = tie.close (tie.spec returns returns-2 returns-3)

@@ -1,4 +1,4 @@
--- `numbered` makes the pass, then the tests of outputs and tares. Assumes nothing.
+-- `numbered` makes the pass, then the tests of outputs and tares.
 use mathlib.Core.Path.{sym, _∙_}
 use borrow.Author.Needs.{needs}
 use borrow.Author.Tests.{not-true, not-false}

@@ -1,4 +1,4 @@
--- `over_records` lends both arrays. Assumes nothing.
+-- `over_records` lends both arrays.
 use mathlib.Core.Path.{refl}
 use borrow.Author.Needs.{needs}
 use Rattle.check_well_formed.proofs.over_records.Statement.{statement}

@@ -1,4 +1,4 @@
--- `records_hold` tests the groups in turn. Assumes nothing.
+-- `records_hold` tests the groups in turn.
 use mathlib.Core.Path.{sym, ap, _∙_}
 use mathlib.Core.Bool.{Bool, cond}
 use borrow.Author.Needs.{needs}
@@ -37,14 +37,20 @@ unbuilt-right-requires c κs = search needs
 
 returns-4 : tie.Need-returns-4
 unfolding records-hold records-hold-clauses hold all inputs-first numbered numbered-clauses
-returns-4 c = λ rs h et eb. pass-here _ _ _ (sym (c .before .before .before .before .before .before .before .before .leaves-first .ensures rs h) ∙ not-false _ (c .before .before .before .before .before .before .before .if1 .left)) (pass-here _ _ _ (sym (c .before .before .before .before .before .before .numbered .ensures rs h et eb) ∙ not-false _ (c .before .before .before .before .before .if2 .left)) (pass-here _ _ _ (sym (c .before .before .before .before .waiting-few .ensures rs h) ∙ not-false _ (c .before .before .before .if3 .left)) (pass-last _ _ (c .unbuilt-right .ensures rs h (held-at (numbered-clauses (c .before .before .before .before .before .before .before .before .before .before .before .before .args .s) rs) (sym (c .before .before .before .before .before .before .numbered .ensures rs h et eb) ∙ not-false _ (c .before .before .before .before .before .if2 .left)) 0) ∙ ap (λ (b : Bool). cond b (unbuilt-right (c .before .before .before .before .before .before .before .before .before .before .before .before .args .s) rs) (built-right (c .before .before .before .before .before .before .before .before .before .before .before .before .args .s) rs)) (sym (eq-eqb (c .before .before .before .before .before .before .before .before .before .before .before .before .args .s .built) 0 (c .before .if4 .taken)))))))
+returns-4 c =
+    let if2 = c .before .before .before .before .before .if2 in
+    let numbered = c .before .before .before .before .before .before .numbered in
+    let args = c .before .before .before .before .before .before .before .before .before .before .before .before .args in
+    λ rs h et eb. pass-here _ _ _ (sym (c .before .before .before .before .before .before .before .before .leaves-first .ensures rs h) ∙ not-false _ (c .before .before .before .before .before .before .before .if1 .left)) (pass-here _ _ _ (sym (numbered .ensures rs h et eb) ∙ not-false _ (if2 .left)) (pass-here _ _ _ (sym (c .before .before .before .before .waiting-few .ensures rs h) ∙ not-false _ (c .before .before .before .if3 .left)) (pass-last _ _ (c .unbuilt-right .ensures rs h (held-at (numbered-clauses (args .s) rs) (sym (numbered .ensures rs h et eb) ∙ not-false _ (if2 .left)) 0) ∙ ap (λ (b : Bool). cond b (unbuilt-right (args .s) rs) (built-right (args .s) rs)) (sym (eq-eqb (args .s .built) 0 (c .before .if4 .taken)))))))
 
 built-right-requires : tie.Need-built-right-requires
 built-right-requires c κs = search needs
 
 returns-5 : tie.Need-returns-5
 unfolding records-hold records-hold-clauses hold all inputs-first numbered numbered-clauses
-returns-5 c = λ rs h et eb. pass-here _ _ _ (sym (c .before .before .before .before .before .before .before .before .leaves-first .ensures rs h) ∙ not-false _ (c .before .before .before .before .before .before .before .if1 .left)) (pass-here _ _ _ (sym (c .before .before .before .before .before .before .numbered .ensures rs h et eb) ∙ not-false _ (c .before .before .before .before .before .if2 .left)) (pass-here _ _ _ (sym (c .before .before .before .before .waiting-few .ensures rs h) ∙ not-false _ (c .before .before .before .if3 .left)) (pass-last _ _ (c .built-right .ensures rs h eb ∙ ap (λ (b : Bool). cond b (unbuilt-right (c .before .before .before .before .before .before .before .before .before .before .before .before .args .s) rs) (built-right (c .before .before .before .before .before .before .before .before .before .before .before .before .args .s) rs)) (sym (ne-eqb (c .before .before .before .before .before .before .before .before .before .before .before .before .args .s .built) 0 (c .before .if4 .left)))))))
+returns-5 c =
+    let args = c .before .before .before .before .before .before .before .before .before .before .before .before .args in
+    λ rs h et eb. pass-here _ _ _ (sym (c .before .before .before .before .before .before .before .before .leaves-first .ensures rs h) ∙ not-false _ (c .before .before .before .before .before .before .before .if1 .left)) (pass-here _ _ _ (sym (c .before .before .before .before .before .before .numbered .ensures rs h et eb) ∙ not-false _ (c .before .before .before .before .before .if2 .left)) (pass-here _ _ _ (sym (c .before .before .before .before .waiting-few .ensures rs h) ∙ not-false _ (c .before .before .before .if3 .left)) (pass-last _ _ (c .built-right .ensures rs h eb ∙ ap (λ (b : Bool). cond b (unbuilt-right (args .s) rs) (built-right (args .s) rs)) (sym (ne-eqb (args .s .built) 0 (c .before .if4 .left)))))))
 
 pub records-hold-spec : {M : Type 1} → statement M
 records-hold-spec =

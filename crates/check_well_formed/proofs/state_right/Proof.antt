@@ -1,4 +1,4 @@
--- `state_right` tests the clauses in turn. Assumes nothing.
+-- `state_right` tests the clauses in turn.
 use mathlib.Core.Path.{refl, sym, _∙_}
 use borrow.Author.Needs.{needs}
 use borrow.Author.Tests.{lt-ltb, le-ltb, le-leb, lt-leb, not-true, not-false}

@@ -1,4 +1,4 @@
--- `top` is the built divisor, or past every lawful weight. Assumes nothing.
+-- `top` is the built divisor, or past every lawful weight.
 use mathlib.Core.Path.{sym, ap, _∙_}
 use mathlib.Core.Bool.{Bool, true, cond}
 use native.Mathlib.Omega.{arith}

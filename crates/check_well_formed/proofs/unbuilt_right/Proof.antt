@@ -1,4 +1,4 @@
--- `unbuilt_right` tests the clauses in turn. Assumes nothing.
+-- `unbuilt_right` tests the clauses in turn.
 use mathlib.Core.Path.{sym, ap, _∙_}
 use Prim.Native.Nat.{ℕ}
 use borrow.Author.Needs.{needs}

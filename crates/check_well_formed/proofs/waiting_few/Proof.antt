@@ -1,4 +1,4 @@
--- `waiting_few` counts the entries, then adds their maxima. Assumes nothing.
+-- `waiting_few` counts the entries, then adds their maxima.
 use mathlib.Core.Path.{sym, ap, _∙_}
 use Prim.Native.Nat.{ℕ}
 use borrow.Author.Needs.{needs}

@@ -1,4 +1,4 @@
--- `begun` is the definition. Assumes nothing.
+-- `begun` is the definition.
 use mathlib.Core.Path.{refl}
 use Rattle.encode_begin.specs.Named.{begun}
 use Rattle.encode_begin.proofs.begun.Statement.{statement}

@@ -1,4 +1,4 @@
--- `made` walks to the first waiting record: none stands before i. Assumes nothing.
+-- `made` walks to the first waiting record: none stands before i.
 use mathlib.Core.Path.{_≡_, sym, _∙_, subst}
 use mathlib.Core.Bool.{true, not}
 use mathlib.Core.List.{List, _++_, map}
@@ -35,7 +35,10 @@ loop-less : tie.Need-loop-less Inv-loop μ-loop
 loop-less c = omega (arith, c .before .before .loop-test .taken)
 
 loop-again : tie.Need-loop-again Inv-loop μ-loop
-loop-again c = (omega (arith, c .before .before .loop-test .taken), λ rs es h a. made-on rs es _ (sym (c .before .waits .ensures (rs ++ map waiting es) h) ∙ c .if1 .left) (subst (λ (n : ℕ). c .before .before .before .loop .i < n) (h .count-is) (c .before .before .loop-test .taken)) (c .before .before .before .loop .inv .1 rs es h a))
+loop-again c =
+    let loop-test = c .before .before .loop-test in
+    let loop = c .before .before .before .loop in
+    (omega (arith, loop-test .taken), λ rs es h a. made-on rs es _ (sym (c .before .waits .ensures (rs ++ map waiting es) h) ∙ c .if1 .left) (subst (λ (n : ℕ). loop .i < n) (h .count-is) (loop-test .taken)) (loop .inv .1 rs es h a))
 
 returns-2 : tie.Need-returns-2 Inv-loop μ-loop
 returns-2 c = λ rs es h a. made-end rs es _ _ (h .count-is) (c .loop-test .left) (c .before .loop .inv .1 rs es h a)

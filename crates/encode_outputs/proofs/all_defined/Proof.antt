@@ -1,4 +1,4 @@
--- `all_defined` looks for each value: those that are left are as defined as all. Assumes nothing.
+-- `all_defined` looks for each value: those that are left are as defined as all.
 use mathlib.Core.Path.{_≡_, refl, sym, _∙_}
 use mathlib.Core.List.{List}
 use Prim.Native.Nat.{_+_}
@@ -40,7 +40,10 @@ loop-less : tie.Need-loop-less Inv-loop μ-loop
 loop-less c = omega (arith, c .before .before .loop-test .taken)
 
 loop-again : tie.Need-loop-again Inv-loop μ-loop
-loop-again c = (λ rs h. sym (defined-on rs _ _ _ _ (c .before .before .loop-test .taken) (c .before .find .ensures rs h) (c .if1 .left)) ∙ c .before .before .before .loop .inv .0 rs h, omega (arith, c .before .before .loop-test .taken, c .before .before .before .loop .inv .1))
+loop-again c =
+    let loop-test = c .before .before .loop-test in
+    let loop = c .before .before .before .loop in
+    (λ rs h. sym (defined-on rs _ _ _ _ (loop-test .taken) (c .before .find .ensures rs h) (c .if1 .left)) ∙ loop .inv .0 rs h, omega (arith, loop-test .taken, loop .inv .1))
 
 returns-2 : tie.Need-returns-2 Inv-loop μ-loop
 returns-2 c = λ rs h. defined-end rs _ _ _ (c .loop-test .left) ∙ c .before .loop .inv .0 rs h

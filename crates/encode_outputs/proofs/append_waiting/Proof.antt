@@ -1,4 +1,4 @@
--- `append_waiting` takes the entries in turn: those that are left, behind what is there, are all. Assumes nothing.
+-- `append_waiting` takes the entries in turn: those that are left, behind what is there, are all.
 use mathlib.Core.Path.{_≡_, refl, _∙_}
 use mathlib.Core.List.{List}
 use Prim.Native.Nat.{_+_, _*_, _≤_}
@@ -20,7 +20,9 @@ abbrev μ-loop : tie.MeasureT-loop
 μ-loop s₀ work a b apart many n₀ x₀ y₀ k₀ s n x y k = k
 
 loop-holds : tie.Need-loop-holds Inv-loop μ-loop
-loop-holds c = (λ b. rest-start _ _, omega (arith, c .before .before .pre), omega (arith, c .before .before .pre), refl)
+loop-holds c =
+    let pre = c .before .before .pre in
+    (λ b. rest-start _ _, omega (arith, pre), omega (arith, pre), refl)
 
 word-requires : tie.Need-word-requires Inv-loop μ-loop
 word-requires c κs = search needs
@@ -44,7 +46,12 @@ loop-less : tie.Need-loop-less Inv-loop μ-loop
 loop-less c = omega (arith, c .before .before .before .before .before .before .loop-test .taken)
 
 loop-again : tie.Need-loop-again Inv-loop μ-loop
-loop-again c = (λ b. waiting-turn _ _ _ _ _ _ _ _ _ _ _ (c .before .before .before .before .before .before .loop-test .taken) (c .before .before .before .before .word .ensures) (c .before .before .before .word2 .ensures) (c .before .before .waiting .ensures b) (c .before .before .before .before .before .before .before .loop .inv .0 b), omega (arith, c .before .before .before .before .before .before .loop-test .taken, c .before .before .before .before .before .before .before .loop .inv .1, c .before .before .before .before .before .before .before .before .before .before .pre .2), omega (arith, c .before .before .before .before .before .before .loop-test .taken, c .before .before .before .before .before .before .before .loop .inv .2, c .before .before .before .before .before .before .before .before .before .before .pre .2), c .before .before .waiting .kept .0 ∙ c .before .before .before .before .before .before .before .loop .inv .3)
+loop-again c =
+    let waiting = c .before .before .waiting in
+    let loop-test = c .before .before .before .before .before .before .loop-test in
+    let loop = c .before .before .before .before .before .before .before .loop in
+    let pre = c .before .before .before .before .before .before .before .before .before .before .pre in
+    (λ b. waiting-turn _ _ _ _ _ _ _ _ _ _ _ (loop-test .taken) (c .before .before .before .before .word .ensures) (c .before .before .before .word2 .ensures) (waiting .ensures b) (loop .inv .0 b), omega (arith, loop-test .taken, loop .inv .1, pre .2), omega (arith, loop-test .taken, loop .inv .2, pre .2), waiting .kept .0 ∙ loop .inv .3)
 
 same-length : tie.Need-same-length Inv-loop μ-loop
 same-length c = c .before .loop .inv .3

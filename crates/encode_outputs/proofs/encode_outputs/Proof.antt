@@ -1,4 +1,4 @@
--- `encode_outputs` defines the values of the range. Assumes nothing.
+-- `encode_outputs` defines the values of the range.
 use Rattle.encode_outputs.proofs.Turns.{outputs-stop, outputs-done}
 use borrow.Author.Needs.{needs}
 use Rattle.encode_outputs.proofs.encode_outputs.Statement.{statement}
@@ -23,7 +23,9 @@ same-length-2 : tie.Need-same-length-2
 same-length-2 c = search needs
 
 returns-2 : tie.Need-returns-2
-returns-2 c = outputs-done _ _ _ _ _ _ _ _ _ _ _ (c .before .before .before .before .before .before .before .before .before .if1 .left) (c .before .before .before .before .before .before .before .maximum .ensures) (c .before .before .before .before .before .before .values .ensures .0) (c .before .before .before .define-from .ensures (c .before .before .before .before .before .before .values .ensures .1))
+returns-2 c =
+    let values = c .before .before .before .before .before .before .values in
+    outputs-done _ _ _ _ _ _ _ _ _ _ _ (c .before .before .before .before .before .before .before .before .before .if1 .left) (c .before .before .before .before .before .before .before .maximum .ensures) (values .ensures .0) (c .before .before .before .define-from .ensures (values .ensures .1))
 
 pub encode-outputs-spec : {M : Type 1} → statement M
 encode-outputs-spec =

@@ -1,4 +1,4 @@
--- `finish` defines and then appends. Assumes nothing.
+-- `finish` defines and then appends.
 use Rattle.encode_outputs.proofs.Lasts.{finished}
 use borrow.Author.Needs.{needs}
 use Rattle.encode_outputs.proofs.finish.Statement.{statement}

@@ -1,4 +1,4 @@
--- `values` divides the range by the outputs' weight. Assumes nothing.
+-- `values` divides the range by the outputs' weight.
 use Prim.Native.Nat.{_-_}
 use native.Mathlib.Omega.{arith}
 use native.Mathlib.Nat.{div-le-self}
@@ -36,7 +36,11 @@ cast-t13 : tie.Need-cast-t13
 cast-t13 c = search needs
 
 sub-t12 : tie.Need-sub-t12
-sub-t12 c = omega (arith, c .lower .ensures, c .before .if1 .left, divided-low (c .before .before .before .args .lo) (c .before .before .before .args .end - 1) (c .before .before .power .result) (power-some _ _ (omega (arith, c .before .before .before .pre .0)) (c .before .before .power .ensures)) (omega (arith, c .before .before .before .pre .1)))
+sub-t12 c =
+    let power = c .before .before .power in
+    let args = c .before .before .before .args in
+    let pre = c .before .before .before .pre in
+    omega (arith, c .lower .ensures, c .before .if1 .left, divided-low (args .lo) (args .end - 1) (power .result) (power-some _ _ (omega (arith, pre .0)) (power .ensures)) (omega (arith, pre .1)))
 
 returns-2 : tie.Need-returns-2
 returns-2 c = (values-some _ _ _ _ _ (c .before .before .before .pre .0) (c .before .before .power .ensures) _ (c .lower .ensures), omega (arith, c .lower .ensures, c .before .if1 .left))

@@ -1,4 +1,4 @@
--- `anew` builds or refines, and finishes. Assumes nothing.
+-- `anew` builds or refines, and finishes.
 use Prim.Native.Nat.{_-_}
 use native.Mathlib.Omega.{arith}
 use lib.ListN.{length, drop, length-drop}
@@ -22,7 +22,10 @@ part-structured-end : tie.Need-part-structured-end
 part-structured-end c = search needs
 
 structured-requires : tie.Need-structured-requires
-structured-requires c κs = (c .before .before .before .before .before .pre .0 .well, c .before .before .before .before .before .pre .0 .made, c .before .before .before .before .before .pre .2, omega (arith, c .before .before .before .before .before .pre .1, length-take-le ((length (c .before .before .before .before .before .args .work .now)) - 3072) (drop 3072 (c .before .before .before .before .before .args .work .now)) (omega (arith, length-drop 3072 (c .before .before .before .before .before .args .work .now))), length-drop 3072 (c .before .before .before .before .before .args .work .now)))
+structured-requires c κs =
+    let args = c .before .before .before .before .before .args in
+    let pre = c .before .before .before .before .before .pre in
+    (pre .0 .well, pre .0 .made, pre .2, omega (arith, pre .1, length-take-le ((length (args .work .now)) - 3072) (drop 3072 (args .work .now)) (omega (arith, length-drop 3072 (args .work .now))), length-drop 3072 (args .work .now)))
 
 array-read-finish : tie.Need-array-read-finish
 array-read-finish c = search needs
@@ -37,7 +40,9 @@ sub-finish : tie.Need-sub-finish
 sub-finish c = omega (arith, c .before .before .before .before .before .before .before .before .before .structured .ensures .2)
 
 finish-requires : tie.Need-finish-requires
-finish-requires c κs = (c .before .before .before .before .before .before .before .before .before .structured .ensures .3, c .before .before .before .before .before .before .before .before .before .before .before .before .before .before .before .pre .0 .asked, omega (arith, c .before .before .before .before .before .before .before .before .before .structured .ensures .2), omega (arith, c .before .before .before .before .before .before .before .before .before .structured .ensures .2), omega arith, omega arith)
+finish-requires c κs =
+    let structured = c .before .before .before .before .before .before .before .before .before .structured in
+    (structured .ensures .3, c .before .before .before .before .before .before .before .before .before .before .before .before .before .before .before .pre .0 .asked, omega (arith, structured .ensures .2), omega (arith, structured .ensures .2), omega arith, omega arith)
 
 marked-requires : tie.Need-marked-requires
 marked-requires c κs = search needs
@@ -52,7 +57,11 @@ same-length-3 : tie.Need-same-length-3
 same-length-3 c = search needs
 
 returns : tie.Need-returns
-returns c = (anew-reached (buildOf (c .before .before .before .before .before .before .before .before .before .before .before .before .before .before .before .before .before .before .before .before .args .s) (c .before .before .before .before .before .before .before .before .before .before .before .before .before .before .before .before .before .before .before .before .args .store .now)) (st (c .before .before .before .before .before .before .before .before .before .before .before .before .before .before .before .before .before .before .before .before .args .store .now) (c .before .before .before .before .before .before .before .before .before .before .before .before .before .before .before .before .before .before .before .before .args .clauses .now) (begun (c .before .before .before .before .before .before .before .before .before .before .before .before .before .before .before .before .before .before .before .before .args .s) (c .before .before .before .before .before .before .before .before .before .before .before .before .before .before .before .before .before .before .before .before .args .n))) _ _ _ _ _ _ _ _ _ _ (tail-put (c .before .before .before .before .before .before .before .before .before .before .before .before .before .before .before .before .before .before .before .before .args .work .now) _ (omega (arith, c .before .before .before .before .before .before .before .before .before .before .before .before .before .before .before .before .before .before .before .before .pre .1))) (c .marked .ensures) (c .before .before .before .before .before .before .before .before .before .before .before .before .before .before .structured .ensures .0) (c .before .before .before .before .finish .ensures), same-len-mid 3072 (length (c .before .before .before .before .before .before .before .before .before .before .before .before .before .before .before .before .before .before .before .before .args .work .now) - 3072) (c .before .before .before .before .before .before .before .before .before .before .before .before .before .before .before .before .before .before .before .before .args .work .now) (c .before .before .before .before .before .before .before .before .before .before .before .before .before .before .structured .last .1 .1 .1 .0) (c .before .before .before .before .before .before .before .before .before .before .before .before .before .before .structured .ensures .1), take-put 3072 (length (c .before .before .before .before .before .before .before .before .before .before .before .before .before .before .before .before .before .before .before .before .args .work .now) - 3072) (c .before .before .before .before .before .before .before .before .before .before .before .before .before .before .before .before .before .before .before .before .args .work .now) (c .before .before .before .before .before .before .before .before .before .before .before .before .before .before .structured .last .1 .1 .1 .0) (omega (arith, c .before .before .before .before .before .before .before .before .before .before .before .before .before .before .before .before .before .before .before .before .pre .1)))
+returns c =
+    let structured = c .before .before .before .before .before .before .before .before .before .before .before .before .before .before .structured in
+    let args = c .before .before .before .before .before .before .before .before .before .before .before .before .before .before .before .before .before .before .before .before .args in
+    let pre = c .before .before .before .before .before .before .before .before .before .before .before .before .before .before .before .before .before .before .before .before .pre in
+    (anew-reached (buildOf (args .s) (args .store .now)) (st (args .store .now) (args .clauses .now) (begun (args .s) (args .n))) _ _ _ _ _ _ _ _ _ _ (tail-put (args .work .now) _ (omega (arith, pre .1))) (c .marked .ensures) (structured .ensures .0) (c .before .before .before .before .finish .ensures), same-len-mid 3072 (length (args .work .now) - 3072) (args .work .now) (structured .last .1 .1 .1 .0) (structured .ensures .1), take-put 3072 (length (args .work .now) - 3072) (args .work .now) (structured .last .1 .1 .1 .0) (omega (arith, pre .1)))
 
 pub anew-spec : {M : Type 1} → statement M
 anew-spec =

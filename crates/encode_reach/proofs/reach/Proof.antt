@@ -1,4 +1,4 @@
--- `reach` leaves what stands or builds anew. Assumes nothing.
+-- `reach` leaves what stands or builds anew.
 use mathlib.Core.Path.{refl, subst}
 use Prim.Native.Nat.{ℕ, _≤_, _<_}
 use Rattle.encode_reach.proofs.Ways.{stands-built, largest-by, reached-stands}
@@ -13,7 +13,10 @@ cast-if1 : tie.Need-cast-if1
 cast-if1 c = search needs
 
 same-requires : tie.Need-same-requires
-same-requires c κs = (c .before .before .before .before .before .before .before .before .before .pre .0, c .before .before .before .before .before .before .before .before .before .pre .1, stands-built (c .before .before .before .before .before .before .before .before .before .args .s) (c .before .before .before .before .before .before .before .before .before .args .store .now) (c .before .before .before .before .before .before .before .before .before .pre .2) (subst (λ (k : ℕ). k < c .before .before .before .before .before .before .before .before .before .args .s .set) (largest-by (c .before .before .before .before .before .before .before .before .before .args .s) (c .before .before .before .before .before .before .before .before .before .args .store .now) (c .before .before .before .before .before .before .before .before .before .args .clauses .now) (c .before .before .before .before .before .before .before .before .before .pre .0 .well) _ (c .before .before .before .before .before .largest .ensures)) (c .before .before .before .if1 .taken)))
+same-requires c κs =
+    let args = c .before .before .before .before .before .before .before .before .before .args in
+    let pre = c .before .before .before .before .before .before .before .before .before .pre in
+    (pre .0, pre .1, stands-built (args .s) (args .store .now) (pre .2) (subst (λ (k : ℕ). k < args .s .set) (largest-by (args .s) (args .store .now) (args .clauses .now) (pre .0 .well) _ (c .before .before .before .before .before .largest .ensures)) (c .before .before .before .if1 .taken)))
 
 same-length : tie.Need-same-length
 same-length c = search needs
@@ -25,10 +28,16 @@ same-length-3 : tie.Need-same-length-3
 same-length-3 c = search needs
 
 returns : tie.Need-returns
-returns c = (reached-stands (c .before .before .before .before .before .before .before .before .before .before .before .before .before .args .s) (c .before .before .before .before .before .before .before .before .before .before .before .before .before .args .store .now) _ _ _ _ _ (c .before .before .before .before .before .before .before .before .before .before .before .before .before .pre .2) (subst (λ (k : ℕ). k < c .before .before .before .before .before .before .before .before .before .before .before .before .before .args .s .set) (largest-by (c .before .before .before .before .before .before .before .before .before .before .before .before .before .args .s) (c .before .before .before .before .before .before .before .before .before .before .before .before .before .args .store .now) (c .before .before .before .before .before .before .before .before .before .before .before .before .before .args .clauses .now) (c .before .before .before .before .before .before .before .before .before .before .before .before .before .pre .0 .well) _ (c .before .before .before .before .before .before .before .before .before .largest .ensures)) (c .before .before .before .before .before .before .before .if1 .taken)) (c .before .before .before .same .ensures), refl, refl)
+returns c =
+    let args = c .before .before .before .before .before .before .before .before .before .before .before .before .before .args in
+    let pre = c .before .before .before .before .before .before .before .before .before .before .before .before .before .pre in
+    (reached-stands (args .s) (args .store .now) _ _ _ _ _ (pre .2) (subst (λ (k : ℕ). k < args .s .set) (largest-by (args .s) (args .store .now) (args .clauses .now) (pre .0 .well) _ (c .before .before .before .before .before .before .before .before .before .largest .ensures)) (c .before .before .before .before .before .before .before .if1 .taken)) (c .before .before .before .same .ensures), refl, refl)
 
 anew-requires : tie.Need-anew-requires
-anew-requires c κs = (c .before .before .before .before .before .before .before .before .before .pre .0, c .before .before .before .before .before .before .before .before .before .pre .1 .long, subst (λ (k : ℕ). c .before .before .before .before .before .before .before .before .before .args .s .set ≤ k) (largest-by (c .before .before .before .before .before .before .before .before .before .args .s) (c .before .before .before .before .before .before .before .before .before .args .store .now) (c .before .before .before .before .before .before .before .before .before .args .clauses .now) (c .before .before .before .before .before .before .before .before .before .pre .0 .well) _ (c .before .before .before .before .before .largest .ensures)) (c .before .before .before .if1 .left))
+anew-requires c κs =
+    let args = c .before .before .before .before .before .before .before .before .before .args in
+    let pre = c .before .before .before .before .before .before .before .before .before .pre in
+    (pre .0, pre .1 .long, subst (λ (k : ℕ). args .s .set ≤ k) (largest-by (args .s) (args .store .now) (args .clauses .now) (pre .0 .well) _ (c .before .before .before .before .before .largest .ensures)) (c .before .before .before .if1 .left))
 
 same-length-4 : tie.Need-same-length-4
 same-length-4 c = search needs

@@ -1,4 +1,4 @@
--- `structured` builds or refines over the queue. Assumes nothing.
+-- `structured` builds or refines over the queue.
 use mathlib.Core.Path.{_∙_}
 use native.Mathlib.Omega.{arith}
 use Rattle.encode_reach.proofs.Standing.{few-wait}
@@ -11,10 +11,17 @@ begun-requires : tie.Need-begun-requires
 begun-requires c κs = search needs
 
 queued-requires : tie.Need-queued-requires
-queued-requires c κs = (few-wait (c .before .before .before .before .before .args .s) (c .before .before .before .before .before .args .store .now) (c .before .before .before .before .before .args .clauses .now) (c .before .before .before .before .before .pre .0) _ (c .before .before .before .before .before .pre .1) .0, omega (arith, few-wait (c .before .before .before .before .before .args .s) (c .before .before .before .before .before .args .store .now) (c .before .before .before .before .before .args .clauses .now) (c .before .before .before .before .before .pre .0) _ (c .before .before .before .before .before .pre .1)), c .before .before .before .before .before .pre .3)
+queued-requires c κs =
+    let args = c .before .before .before .before .before .args in
+    let pre = c .before .before .before .before .before .pre in
+    (few-wait (args .s) (args .store .now) (args .clauses .now) (pre .0) _ (pre .1) .0, omega (arith, few-wait (args .s) (args .store .now) (args .clauses .now) (pre .0) _ (pre .1)), pre .3)
 
 build-structure-requires : tie.Need-build-structure-requires
-build-structure-requires c κs = (ready (c .before .before .before .before .before .before .before .before .before .before .before .before .args .s) (c .before .before .before .before .before .before .before .before .before .before .before .before .args .store .now) (c .before .before .before .before .before .before .before .before .before .before .before .before .args .clauses .now) (c .before .before .before .before .before .before .before .before .before .before .before .before .pre .0) _ (c .before .before .before .before .before .before .before .before .before .before .before .before .pre .1) (c .before .before .before .before .before .before .before .before .before .before .before .before .pre .2) _ _ (omega (arith, c .before .before .before .before .before .before .queued .ensures .2, c .before .before .before .before .before .before .before .before .before .before .before .before .pre .3)) (c .before .before .before .before .before .before .queued .ensures .3) (c .before .before .before .before .before .before .queued .ensures .0) (c .before .before .before .before .before .before .queued .ensures .1), begun-fresh _ _ _ (c .before .before .before .before .before .before .before .before .before .begun .ensures))
+build-structure-requires c κs =
+    let queued = c .before .before .before .before .before .before .queued in
+    let args = c .before .before .before .before .before .before .before .before .before .before .before .before .args in
+    let pre = c .before .before .before .before .before .before .before .before .before .before .before .before .pre in
+    (ready (args .s) (args .store .now) (args .clauses .now) (pre .0) _ (pre .1) (pre .2) _ _ (omega (arith, queued .ensures .2, pre .3)) (queued .ensures .3) (queued .ensures .0) (queued .ensures .1), begun-fresh _ _ _ (c .before .before .before .before .before .before .before .before .before .begun .ensures))
 
 same-length : tie.Need-same-length
 same-length c = search needs
@@ -23,10 +30,18 @@ same-length-2 : tie.Need-same-length-2
 same-length-2 c = search needs
 
 returns : tie.Need-returns
-returns c = (first-structured (c .before .before .before .before .before .before .before .before .before .before .before .before .before .before .before .before .before .args .s) (c .before .before .before .before .before .before .before .before .before .before .before .before .before .before .before .before .before .args .store .now) _ _ _ _ (c .before .before .before .before .before .before .before .if1 .taken) (c .before .before .before .before .build-structure .ensures .0 _ _ (entered-by (c .before .before .before .before .before .before .before .before .before .before .before .before .before .before .before .before .before .args .s) (c .before .before .before .before .before .before .before .before .before .before .before .before .before .before .before .before .before .args .store .now) (c .before .before .before .before .before .before .before .before .before .before .before .before .before .before .before .before .before .args .clauses .now) (c .before .before .before .before .before .before .before .before .before .before .before .before .before .before .before .before .before .pre .0) _ (c .before .before .before .before .before .before .before .before .before .before .before .before .before .before .before .before .before .pre .1) _ (c .before .before .before .before .before .before .before .before .before .before .before .before .before .before .begun .ensures))), c .before .before .before .before .build-structure .ensures .1 ∙ c .before .before .before .before .before .before .before .before .before .before .before .queued .ensures .2, c .before .before .before .before .build-structure .ensures .2, c .before .before .before .before .build-structure .ensures .3)
+returns c =
+    let build-structure = c .before .before .before .before .build-structure in
+    let args = c .before .before .before .before .before .before .before .before .before .before .before .before .before .before .before .before .before .args in
+    let pre = c .before .before .before .before .before .before .before .before .before .before .before .before .before .before .before .before .before .pre in
+    (first-structured (args .s) (args .store .now) _ _ _ _ (c .before .before .before .before .before .before .before .if1 .taken) (build-structure .ensures .0 _ _ (entered-by (args .s) (args .store .now) (args .clauses .now) (pre .0) _ (pre .1) _ (c .before .before .before .before .before .before .before .before .before .before .before .before .before .before .begun .ensures))), build-structure .ensures .1 ∙ c .before .before .before .before .before .before .before .before .before .before .before .queued .ensures .2, build-structure .ensures .2, build-structure .ensures .3)
 
 merge-structures-requires : tie.Need-merge-structures-requires
-merge-structures-requires c κs = refinable (c .before .before .before .before .before .before .before .before .before .before .before .before .before .args .s) (c .before .before .before .before .before .before .before .before .before .before .before .before .before .args .store .now) (c .before .before .before .before .before .before .before .before .before .before .before .before .before .args .clauses .now) (c .before .before .before .before .before .before .before .before .before .before .before .before .before .pre .0) _ (c .before .before .before .before .before .before .before .before .before .before .before .before .before .pre .1) (c .before .before .before .before .before .before .before .before .before .before .before .before .before .pre .2) _ _ (omega (arith, c .before .before .before .before .before .before .before .queued .ensures .2, c .before .before .before .before .before .before .before .before .before .before .before .before .before .pre .3)) (c .before .before .before .before .before .before .before .queued .ensures .3) (c .before .before .before .before .before .before .before .queued .ensures .0) (c .before .before .before .before .before .before .before .queued .ensures .1) _ (c .before .before .before .before .before .before .before .before .before .before .begun .ensures) (c .before .before .before .if1 .left)
+merge-structures-requires c κs =
+    let queued = c .before .before .before .before .before .before .before .queued in
+    let args = c .before .before .before .before .before .before .before .before .before .before .before .before .before .args in
+    let pre = c .before .before .before .before .before .before .before .before .before .before .before .before .before .pre in
+    refinable (args .s) (args .store .now) (args .clauses .now) (pre .0) _ (pre .1) (pre .2) _ _ (omega (arith, queued .ensures .2, pre .3)) (queued .ensures .3) (queued .ensures .0) (queued .ensures .1) _ (c .before .before .before .before .before .before .before .before .before .before .begun .ensures) (c .before .before .before .if1 .left)
 
 same-length-3 : tie.Need-same-length-3
 same-length-3 c = search needs
@@ -38,7 +53,10 @@ same-length-5 : tie.Need-same-length-5
 same-length-5 c = search needs
 
 returns-2 : tie.Need-returns-2
-returns-2 c = (refined-structured (c .before .before .before .before .before .before .before .before .before .before .before .before .before .before .before .before .before .before .before .args .s) (c .before .before .before .before .before .before .before .before .before .before .before .before .before .before .before .before .before .before .before .args .store .now) _ _ _ _ (c .before .before .before .before .before .before .before .before .before .if1 .left) (c .before .before .before .before .before .before .before .before .before .before .before .before .before .before .before .before .before .before .before .pre .2) (refines-by _ _ _ _ _ _ _ _ (c .before .before .before .before .before .before .before .before .before .before .before .before .before .before .before .before .begun .ensures) (c .before .before .before .before .before .merge-structures .ensures .0)), c .before .before .before .before .before .merge-structures .ensures .1 ∙ c .before .before .before .before .before .before .before .before .before .before .before .before .before .queued .ensures .2, c .before .before .before .before .before .merge-structures .ensures .2, c .before .before .before .before .before .merge-structures .ensures .3)
+returns-2 c =
+    let merge-structures = c .before .before .before .before .before .merge-structures in
+    let args = c .before .before .before .before .before .before .before .before .before .before .before .before .before .before .before .before .before .before .before .args in
+    (refined-structured (args .s) (args .store .now) _ _ _ _ (c .before .before .before .before .before .before .before .before .before .if1 .left) (c .before .before .before .before .before .before .before .before .before .before .before .before .before .before .before .before .before .before .before .pre .2) (refines-by _ _ _ _ _ _ _ _ (c .before .before .before .before .before .before .before .before .before .before .before .before .before .before .before .before .begun .ensures) (merge-structures .ensures .0)), merge-structures .ensures .1 ∙ c .before .before .before .before .before .before .before .before .before .before .before .before .before .queued .ensures .2, merge-structures .ensures .2, merge-structures .ensures .3)
 
 pub structured-spec : {M : Type 1} → statement M
 structured-spec =

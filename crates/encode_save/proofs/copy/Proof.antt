@@ -1,4 +1,4 @@
--- `copy` has copied the first i words. Assumes nothing.
+-- `copy` has copied the first i words.
 use mathlib.Core.Path.{_≡_, refl, _∙_}
 use Prim.Native.Nat.{_≤_, _-_}
 use native.Mathlib.Omega.{arith}
@@ -39,13 +39,19 @@ loop-less c = omega arith
 
 loop-again : tie.Need-loop-again Inv-loop μ-loop
 unfolding word-at put-word
-loop-again c = (copy-turn _ _ _ _ _ _ _ _ _ (c .before .before .before .before .before .before .before .before .before .pre .0) (c .before .before .before .before .before .before .before .before .before .pre .1) (c .before .before .before .before .before .loop-test .taken) (c .before .before .before .before .before .before .loop .inv .0) (c .before .before .before .word .ensures) (c .before .before .put .ensures), omega arith, c .before .before .put .kept .0 ∙ c .before .before .before .before .before .before .loop .inv .2)
+loop-again c =
+    let put = c .before .before .put in
+    let loop = c .before .before .before .before .before .before .loop in
+    let pre = c .before .before .before .before .before .before .before .before .before .pre in
+    (copy-turn _ _ _ _ _ _ _ _ _ (pre .0) (pre .1) (c .before .before .before .before .before .loop-test .taken) (loop .inv .0) (c .before .before .before .word .ensures) (put .ensures), omega arith, put .kept .0 ∙ loop .inv .2)
 
 same-length : tie.Need-same-length Inv-loop μ-loop
 same-length c = c .before .loop .inv .2
 
 returns : tie.Need-returns Inv-loop μ-loop
-returns c = copy-end _ _ _ _ _ _ _ (c .before .loop .inv .1) (c .loop-test .left) (c .before .loop .inv .0)
+returns c =
+    let loop = c .before .loop in
+    copy-end _ _ _ _ _ _ _ (loop .inv .1) (c .loop-test .left) (loop .inv .0)
 
 pub copy-spec : {M : Type 1} → statement M
 copy-spec =

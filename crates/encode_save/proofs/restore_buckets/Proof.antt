@@ -1,4 +1,4 @@
--- `restore_buckets` has put the first k buckets back. Assumes nothing.
+-- `restore_buckets` has put the first k buckets back.
 use Prim.Native.Nat.{_+_, _*_, _≤_, _-_}
 use native.Mathlib.Omega.{arith}
 use borrow.Author.Needs.{needs}
@@ -34,10 +34,17 @@ cast-copy : tie.Need-cast-copy Inv-loop μ-loop
 cast-copy c = search needs
 
 mul-copy-3 : tie.Need-mul-copy-3 Inv-loop μ-loop
-mul-copy-3 c = let slot : 8 * getD (c .before .before .before .before .before .args .t3) (c .before .before .loop .k) 0 + 8 ≤ length (c .before .before .before .before .before .args .s .now) = slot-fact (λ b. 8 * b + 8 ≤ length (c .before .before .before .before .before .args .s .now)) (c .before .before .before .before .before .args .t3) _ _ (search needs) (c .before .loop-test .taken) (c .before .before .before .before .before .pre .2) in search needs
+mul-copy-3 c =
+    let args = c .before .before .before .before .before .args in
+    let slot : 8 * getD (args .t3) (c .before .before .loop .k) 0 + 8 ≤ length (args .s .now) = slot-fact (λ b. 8 * b + 8 ≤ length (args .s .now)) (args .t3) _ _ (search needs) (c .before .loop-test .taken) (c .before .before .before .before .before .pre .2) in search needs
 
 copy-requires : tie.Need-copy-requires Inv-loop μ-loop
-copy-requires c κs = let slot : 8 * getD (c .before .before .before .before .before .args .t3) (c .before .before .loop .k) 0 + 8 ≤ length (c .before .before .before .before .before .args .s .now) = slot-fact (λ b. 8 * b + 8 ≤ length (c .before .before .before .before .before .args .s .now)) (c .before .before .before .before .before .args .t3) _ _ (search needs) (c .before .loop-test .taken) (c .before .before .before .before .before .pre .2) in (omega (arith, c .before .before .loop .inv .0 .same-length, c .before .before .before .before .before .pre .0, c .before .before .before .before .before .pre .1, c .before .loop-test .taken), omega (arith, slot, c .before .before .loop .inv .0 .same-length))
+copy-requires c κs =
+    let loop-test = c .before .loop-test in
+    let loop = c .before .before .loop in
+    let args = c .before .before .before .before .before .args in
+    let pre = c .before .before .before .before .before .pre in
+    let slot : 8 * getD (args .t3) (loop .k) 0 + 8 ≤ length (args .s .now) = slot-fact (λ b. 8 * b + 8 ≤ length (args .s .now)) (args .t3) _ _ (search needs) (loop-test .taken) (pre .2) in (omega (arith, loop .inv .0 .same-length, pre .0, pre .1, loop-test .taken), omega (arith, slot, loop .inv .0 .same-length))
 
 add-k : tie.Need-add-k Inv-loop μ-loop
 add-k c = omega arith
@@ -46,13 +53,19 @@ loop-less : tie.Need-loop-less Inv-loop μ-loop
 loop-less c = omega arith
 
 loop-again : tie.Need-loop-again Inv-loop μ-loop
-loop-again c = (restores-turn _ _ _ _ (c .before .before .before .before .before .before .before .before .args .t3) _ (search needs) (omega (arith, c .before .before .before .before .loop-test .taken, c .before .before .before .before .before .before .before .before .pre .0)) (c .before .before .before .before .before .before .before .before .pre .1) (slot-fact (λ b. 8 * b + 8 ≤ length (c .before .before .before .before .before .before .before .before .args .s .now)) (c .before .before .before .before .before .before .before .before .args .t3) _ _ (search needs) (c .before .before .before .before .loop-test .taken) (c .before .before .before .before .before .before .before .before .pre .2)) (c .before .before .copy .ensures) (c .before .before .before .before .before .loop .inv .0), omega arith)
+loop-again c =
+    let loop-test = c .before .before .before .before .loop-test in
+    let args = c .before .before .before .before .before .before .before .before .args in
+    let pre = c .before .before .before .before .before .before .before .before .pre in
+    (restores-turn _ _ _ _ (args .t3) _ (search needs) (omega (arith, loop-test .taken, pre .0)) (pre .1) (slot-fact (λ b. 8 * b + 8 ≤ length (args .s .now)) (args .t3) _ _ (search needs) (loop-test .taken) (pre .2)) (c .before .before .copy .ensures) (c .before .before .before .before .before .loop .inv .0), omega arith)
 
 same-length : tie.Need-same-length Inv-loop μ-loop
 same-length c = c .before .loop .inv .0 .same-length
 
 returns : tie.Need-returns Inv-loop μ-loop
-returns c = restores-end _ _ _ _ _ _ (c .before .loop .inv .1) (c .loop-test .left) (c .before .loop .inv .0)
+returns c =
+    let loop = c .before .loop in
+    restores-end _ _ _ _ _ _ (loop .inv .1) (c .loop-test .left) (loop .inv .0)
 
 pub restore-buckets-spec : {M : Type 1} → statement M
 restore-buckets-spec =

@@ -1,4 +1,4 @@
--- `save_buckets` has saved the first i buckets. Assumes nothing.
+-- `save_buckets` has saved the first i buckets.
 use Prim.Native.Nat.{_+_, _*_, _≤_, _-_}
 use native.Mathlib.Omega.{arith}
 use borrow.Author.Needs.{needs}
@@ -28,7 +28,9 @@ cast-copy : tie.Need-cast-copy Inv-loop μ-loop
 cast-copy c = search needs
 
 mul-copy-2 : tie.Need-mul-copy-2 Inv-loop μ-loop
-mul-copy-2 c = let slot : 8 * getD (c .before .before .before .before .args .t3) (c .before .loop .i) 0 + 8 ≤ length (c .before .before .before .before .args .s .now) = slot-fact (λ b. 8 * b + 8 ≤ length (c .before .before .before .before .args .s .now)) (c .before .before .before .before .args .t3) _ _ (search needs) (c .loop-test .taken) (c .before .before .before .before .pre .2) in search needs
+mul-copy-2 c =
+    let args = c .before .before .before .before .args in
+    let slot : 8 * getD (args .t3) (c .before .loop .i) 0 + 8 ≤ length (args .s .now) = slot-fact (λ b. 8 * b + 8 ≤ length (args .s .now)) (args .t3) _ _ (search needs) (c .loop-test .taken) (c .before .before .before .before .pre .2) in search needs
 
 mul-copy-3 : tie.Need-mul-copy-3 Inv-loop μ-loop
 mul-copy-3 c = search needs
@@ -37,7 +39,12 @@ add-copy : tie.Need-add-copy Inv-loop μ-loop
 add-copy c = search needs
 
 copy-requires : tie.Need-copy-requires Inv-loop μ-loop
-copy-requires c κs = let slot : 8 * getD (c .before .before .before .before .before .args .t3) (c .before .before .loop .i) 0 + 8 ≤ length (c .before .before .before .before .before .args .s .now) = slot-fact (λ b. 8 * b + 8 ≤ length (c .before .before .before .before .before .args .s .now)) (c .before .before .before .before .before .args .t3) _ _ (search needs) (c .before .loop-test .taken) (c .before .before .before .before .before .pre .2) in (omega (arith, slot, c .before .before .loop .inv .0 .same-length), omega (arith, c .before .before .loop .inv .0 .same-length, c .before .before .before .before .before .pre .0, c .before .before .before .before .before .pre .1, c .before .loop-test .taken))
+copy-requires c κs =
+    let loop-test = c .before .loop-test in
+    let loop = c .before .before .loop in
+    let args = c .before .before .before .before .before .args in
+    let pre = c .before .before .before .before .before .pre in
+    let slot : 8 * getD (args .t3) (loop .i) 0 + 8 ≤ length (args .s .now) = slot-fact (λ b. 8 * b + 8 ≤ length (args .s .now)) (args .t3) _ _ (search needs) (loop-test .taken) (pre .2) in (omega (arith, slot, loop .inv .0 .same-length), omega (arith, loop .inv .0 .same-length, pre .0, pre .1, loop-test .taken))
 
 add-i : tie.Need-add-i Inv-loop μ-loop
 add-i c = omega arith
@@ -46,13 +53,19 @@ loop-less : tie.Need-loop-less Inv-loop μ-loop
 loop-less c = omega arith
 
 loop-again : tie.Need-loop-again Inv-loop μ-loop
-loop-again c = (saves-turn _ _ _ _ _ _ (omega (arith, c .before .before .before .before .loop-test .taken, c .before .before .before .before .before .before .before .before .pre .0)) (c .before .before .before .before .before .before .before .before .pre .1) (slot-fact (λ b. 8 * b + 8 ≤ length (c .before .before .before .before .before .before .before .before .args .s .now)) (c .before .before .before .before .before .before .before .before .args .t3) _ _ (search needs) (c .before .before .before .before .loop-test .taken) (c .before .before .before .before .before .before .before .before .pre .2)) (c .before .before .copy .ensures) (c .before .before .before .before .before .loop .inv .0), omega arith)
+loop-again c =
+    let loop-test = c .before .before .before .before .loop-test in
+    let args = c .before .before .before .before .before .before .before .before .args in
+    let pre = c .before .before .before .before .before .before .before .before .pre in
+    (saves-turn _ _ _ _ _ _ (omega (arith, loop-test .taken, pre .0)) (pre .1) (slot-fact (λ b. 8 * b + 8 ≤ length (args .s .now)) (args .t3) _ _ (search needs) (loop-test .taken) (pre .2)) (c .before .before .copy .ensures) (c .before .before .before .before .before .loop .inv .0), omega arith)
 
 same-length : tie.Need-same-length Inv-loop μ-loop
 same-length c = c .before .loop .inv .0 .same-length
 
 returns : tie.Need-returns Inv-loop μ-loop
-returns c = saves-end _ _ _ _ _ _ (c .before .loop .inv .1) (c .loop-test .left) (c .before .loop .inv .0)
+returns c =
+    let loop = c .before .loop in
+    saves-end _ _ _ _ _ _ (loop .inv .1) (c .loop-test .left) (loop .inv .0)
 
 pub save-buckets-spec : {M : Type 1} → statement M
 save-buckets-spec =

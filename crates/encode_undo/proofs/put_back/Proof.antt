@@ -1,4 +1,4 @@
--- `put_back` restores the buckets and copies the waiting records. Assumes nothing.
+-- `put_back` restores the buckets and copies the waiting records.
 use mathlib.Core.Path.{_∙_}
 use native.Mathlib.Omega.{arith}
 use Rattle.rules.specs.Build.{buckets-of}
@@ -12,7 +12,9 @@ cast-restore-buckets c = search needs
 
 restore-buckets-requires : tie.Need-restore-buckets-requires
 unfolding buckets-of
-restore-buckets-requires c κs = (c .before .before .before .before .before .pre .4, omega (arith, c .before .before .before .before .before .pre .3), c .before .before .before .before .before .pre .5)
+restore-buckets-requires c κs =
+    let pre = c .before .before .before .before .before .pre in
+    (pre .4, omega (arith, pre .3), pre .5)
 
 mul-copy : tie.Need-mul-copy
 mul-copy c = search needs
@@ -30,7 +32,12 @@ same-length : tie.Need-same-length
 same-length c = search needs
 
 returns : tie.Need-returns
-returns c = (back (c .before .before .before .before .before .before .before .before .before .before .before .before .before .args .s) (c .before .before .before .before .before .before .before .before .before .before .before .before .before .args .store .now) _ _ (c .before .before .before .before .before .before .before .before .before .before .before .before .before .args .work .now) (c .before .before .before .before .before .before .before .before .before .before .before .before .before .args .n) (c .before .before .before .before .before .before .before .before .before .before .before .before .before .pre .0) (c .before .before .before .before .before .before .before .before .before .before .before .before .before .pre .2) (c .before .before .before .before .before .before .before .restore-buckets .ensures) (c .before .before .copy .ensures) (c .before .before .before .before .before .before .before .before .before .before .before .before .before .pre .3) (c .before .before .before .before .before .before .before .before .before .before .before .before .before .pre .1), c .before .before .copy .kept .1 .1 .0 ∙ c .before .before .before .before .before .before .before .restore-buckets .kept .0)
+returns c =
+    let copy = c .before .before .copy in
+    let restore-buckets = c .before .before .before .before .before .before .before .restore-buckets in
+    let args = c .before .before .before .before .before .before .before .before .before .before .before .before .before .args in
+    let pre = c .before .before .before .before .before .before .before .before .before .before .before .before .before .pre in
+    (back (args .s) (args .store .now) _ _ (args .work .now) (args .n) (pre .0) (pre .2) (restore-buckets .ensures) (copy .ensures) (pre .3) (pre .1), copy .kept .1 .1 .0 ∙ restore-buckets .kept .0)
 
 pub put-back-spec : {M : Type 1} → statement M
 put-back-spec =

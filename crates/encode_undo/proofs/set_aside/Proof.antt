@@ -1,4 +1,4 @@
--- `set_aside` copies the waiting records and saves the buckets. Assumes nothing.
+-- `set_aside` copies the waiting records and saves the buckets.
 use native.Mathlib.Omega.{arith}
 use Rattle.rules.specs.Build.{buckets-of}
 use Rattle.encode_undo.proofs.Backs.{aside}
@@ -23,13 +23,18 @@ cast-save-buckets c = search needs
 
 save-buckets-requires : tie.Need-save-buckets-requires
 unfolding buckets-of
-save-buckets-requires c κs = (c .before .before .before .before .before .before .before .before .before .before .pre .4, omega (arith, c .before .before .before .before .before .before .before .before .before .before .pre .3, c .before .before .before .before .before .copy .kept), c .before .before .before .before .before .before .before .before .before .before .pre .5)
+save-buckets-requires c κs =
+    let pre = c .before .before .before .before .before .before .before .before .before .before .pre in
+    (pre .4, omega (arith, pre .3, c .before .before .before .before .before .copy .kept), pre .5)
 
 same-length : tie.Need-same-length
 same-length c = search needs
 
 returns : tie.Need-returns
-returns c = aside (c .before .before .before .before .before .before .before .before .before .before .before .before .before .args .s) (c .before .before .before .before .before .before .before .before .before .before .before .before .before .args .store .now) (c .before .before .before .before .before .before .before .before .before .before .before .before .before .args .work .now) _ _ (c .before .before .before .before .before .before .before .before .before .before .before .before .before .args .n) (c .before .before .before .before .before .before .before .before .before .before .before .before .before .pre .0) (c .before .before .before .before .before .before .before .before .before .before .before .before .before .pre .1) (c .before .before .before .before .before .before .before .before .before .before .before .before .before .pre .2) (c .before .before .before .before .before .before .before .before .before .before .before .before .before .pre .3) (c .before .before .before .before .before .before .before .before .copy .ensures) (c .before .before .save-buckets .ensures)
+returns c =
+    let args = c .before .before .before .before .before .before .before .before .before .before .before .before .before .args in
+    let pre = c .before .before .before .before .before .before .before .before .before .before .before .before .before .pre in
+    aside (args .s) (args .store .now) (args .work .now) _ _ (args .n) (pre .0) (pre .1) (pre .2) (pre .3) (c .before .before .before .before .before .before .before .before .copy .ensures) (c .before .before .save-buckets .ensures)
 
 pub set-aside-spec : {M : Type 1} → statement M
 set-aside-spec =

@@ -1,4 +1,4 @@
--- `all_within` compares the sum, then the divisor set. Assumes nothing.
+-- `all_within` compares the sum, then the divisor set.
 use Rattle.enforce_answer.proofs.Answers.{within-not, within-set}
 use Rattle.enforce_answer.proofs.all_within.Statement.{statement}
 use Rattle.enforce_answer.proofs.all_within.Tie as tie

@@ -1,4 +1,4 @@
--- `answer` takes the tests of enforce in their order. Assumes nothing.
+-- `answer` takes the tests of enforce in their order.
 use Rattle.enforce_answer.proofs.Held.{ask-within, ask-none, ask-one, ask-more}
 use borrow.Author.Needs.{needs}
 use Rattle.enforce_answer.proofs.answer.Statement.{statement}

@@ -1,4 +1,4 @@
--- `built_answer` refuses what is not encoded and divides the bound. Assumes nothing.
+-- `built_answer` refuses what is not encoded and divides the bound.
 use Rattle.enforce_answer.proofs.Held.{small, quotient, ask-unbuilt, ask-waits, ask-root}
 use borrow.Author.Needs.{needs}
 use native.Mathlib.Omega.{arith}
@@ -27,7 +27,9 @@ div-root-answer-2 : tie.Need-div-root-answer-2
 div-root-answer-2 c = omega (arith, quotient _ _ (c .before .before .before .before .before .before .before .before .before .before .before .pre) (c .before .before .before .before .before .before .before .before .if1 .left))
 
 root-answer-requires : tie.Need-root-answer-requires
-root-answer-requires c κs = (c .before .before .before .before .before .before .before .before .before .before .before .pre .laid .tares-few, small _ _ (c .before .before .before .before .before .before .before .before .before .before .before .pre))
+root-answer-requires c κs =
+    let pre = c .before .before .before .before .before .before .before .before .before .before .before .pre in
+    (pre .laid .tares-few, small _ _ pre)
 
 same-length : tie.Need-same-length
 same-length c = search needs

@@ -1,4 +1,4 @@
--- `one_answer` compares the weight that waits with the bound. Assumes nothing.
+-- `one_answer` compares the weight that waits with the bound.
 use Rattle.rules.specs.Enforce.{set-tares}
 use Rattle.enforce_answer.proofs.Answers.{waits-is, first-is, one-empty, one-literal}
 use borrow.Author.Needs.{needs}

@@ -1,4 +1,4 @@
--- `put_answer` counts, tests the room, and writes the literal before the tares. Assumes nothing.
+-- `put_answer` counts, tests the room, and writes the literal before the tares.
 use Rattle.enforce_answer.proofs.Back.{used-length}
 use Rattle.enforce_answer.proofs.Finish.{ended-short, ended-room}
 use borrow.Author.Needs.{needs}

@@ -1,4 +1,4 @@
--- `put_tare` tests the lowest bit. Assumes nothing.
+-- `put_tare` tests the lowest bit.
 use Rattle.enforce_answer.proofs.Back.{step-clear, step-none, step-set}
 use borrow.Author.Needs.{needs}
 use Rattle.enforce_answer.proofs.put_tare.Statement.{statement}

@@ -1,4 +1,4 @@
--- `put_tares` lays the tares from the back: what is left of the work is the whole work. Assumes nothing.
+-- `put_tares` lays the tares from the back: what is left of the work is the whole work.
 use Prim.Native.Nat.{_≤_, _-_}
 use Rattle.records.specs.Words.{buf}
 use Rattle.enforce_answer.proofs.Back.{back-on, back-end, back-laid, tare-small, used-in, past-used}
@@ -22,7 +22,9 @@ tare-requires : tie.Need-tare-requires Inv-loop μ-loop
 tare-requires c κs = (c .before .loop-test .taken, c .before .before .before .pre .0)
 
 put-tare-requires : tie.Need-put-tare-requires Inv-loop μ-loop
-put-tare-requires c κs = tare-small (take (c .before .before .before .before .args .used) (c .before .before .before .before .args .tares)) (c .before .before .before .loop .i) _ (c .tare .ensures) (c .before .before .before .before .pre .1)
+put-tare-requires c κs =
+    let args = c .before .before .before .before .args in
+    tare-small (take (args .used) (args .tares)) (c .before .before .before .loop .i) _ (c .tare .ensures) (c .before .before .before .before .pre .1)
 
 add-i : tie.Need-add-i Inv-loop μ-loop
 add-i c = omega arith
@@ -31,7 +33,10 @@ loop-less : tie.Need-loop-less Inv-loop μ-loop
 loop-less c = omega arith
 
 loop-again : tie.Need-loop-again Inv-loop μ-loop
-loop-again c = (back-on _ _ _ _ _ _ _ (used-in _ _ (c .before .before .before .before .before .before .pre .0) (c .before .before .before .before .before .before .good .1 .0 .1 .0 .1) _ (c .before .before .before .before .loop-test .taken)) (c .before .before .tare .ensures) (c .before .put-tare .ensures) (c .before .before .before .before .before .loop .inv .0), omega arith, c .before .put-tare .kept .0 ∙ c .before .before .before .before .before .loop .inv .2)
+loop-again c =
+    let put-tare = c .before .put-tare in
+    let loop = c .before .before .before .before .before .loop in
+    (back-on _ _ _ _ _ _ _ (used-in _ _ (c .before .before .before .before .before .before .pre .0) (c .before .before .before .before .before .before .good .1 .0 .1 .0 .1) _ (c .before .before .before .before .loop-test .taken)) (c .before .before .tare .ensures) (put-tare .ensures) (loop .inv .0), omega arith, put-tare .kept .0 ∙ loop .inv .2)
 
 same-length : tie.Need-same-length Inv-loop μ-loop
 same-length c = c .before .loop .inv .2

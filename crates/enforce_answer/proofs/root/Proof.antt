@@ -1,4 +1,4 @@
--- `root` reads the first bucket where there is one. Assumes nothing.
+-- `root` reads the first bucket where there is one.
 use Rattle.enforce_answer.proofs.First.{root-none, root-first}
 use borrow.Author.Needs.{needs}
 use Rattle.enforce_answer.proofs.root.Statement.{statement}

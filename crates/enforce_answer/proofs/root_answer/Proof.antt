@@ -1,4 +1,4 @@
--- `root_answer` asks for the output above the bound's share, and for the tares of what is left of its weight. Assumes nothing.
+-- `root_answer` asks for the output above the bound's share, and for the tares of what is left of its weight.
 use Rattle.enforce_answer.proofs.Answers.{most-is, found-is, weight-is, root-empty, root-undefined, root-output}
 use Rattle.numbers.proofs.Bits.{power-some}
 use borrow.Author.Needs.{needs}

@@ -1,4 +1,4 @@
--- `set_bits` counts from the lowest bit: those counted and those left are all. Assumes nothing.
+-- `set_bits` counts from the lowest bit: those counted and those left are all.
 use Prim.Native.Nat.{_+_, _≤_}
 use Rattle.enforce_answer.proofs.Bits.{bits-on, bits-end}
 use Rattle.enforce_answer.specs.Tares.{bits}

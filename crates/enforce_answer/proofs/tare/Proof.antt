@@ -1,4 +1,4 @@
--- `tare` reads one of the used slots. Assumes nothing.
+-- `tare` reads one of the used slots.
 use mathlib.Core.Path.{sym}
 use Prim.Native.Nat.{ℕ}
 use lib.Seq.{getD-take}

@@ -1,4 +1,4 @@
--- `admits` makes as many passes as there are variables at most. Assumes nothing.
+-- `admits` makes as many passes as there are variables at most.
 use mathlib.Core.Path.{_≡_}
 use Prim.Native.Nat.{_-_}
 use native.Mathlib.Omega.{arith}

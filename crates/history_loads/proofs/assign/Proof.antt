@@ -1,4 +1,4 @@
--- `assign` goes through the inputs. Assumes nothing.
+-- `assign` goes through the inputs.
 use mathlib.Core.Path.{_≡_}
 use Prim.Native.Nat.{_-_}
 use native.Mathlib.Omega.{arith}

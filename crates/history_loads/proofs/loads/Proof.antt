@@ -1,4 +1,4 @@
--- `loads` cuts the clauses where the used words end. Assumes nothing.
+-- `loads` cuts the clauses where the used words end.
 use mathlib.Core.Path.{sym}
 use native.Mathlib.Omega.{arith}
 use lib.Seq.{length-take-le}

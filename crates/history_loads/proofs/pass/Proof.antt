@@ -1,4 +1,4 @@
--- `pass` goes through the clause words. Assumes nothing.
+-- `pass` goes through the clause words.
 use mathlib.Core.Path.{_≡_}
 use Prim.Native.Nat.{_-_}
 use native.Mathlib.Omega.{arith}

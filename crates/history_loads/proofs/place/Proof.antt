@@ -1,4 +1,4 @@
--- `place` goes through the slots. Assumes nothing.
+-- `place` goes through the slots.
 use Prim.Native.Nat.{_-_, _≤_}
 use native.Mathlib.Omega.{arith}
 use borrow.Author.Needs.{needs}

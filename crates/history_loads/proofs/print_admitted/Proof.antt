@@ -1,4 +1,4 @@
--- `print_admitted` goes through the assignments. Assumes nothing.
+-- `print_admitted` goes through the assignments.
 use mathlib.Core.Path.{_≡_}
 use Prim.Native.Nat.{_-_}
 use native.Mathlib.Omega.{arith}

@@ -1,4 +1,4 @@
--- `roles` goes through the answer. Assumes nothing.
+-- `roles` goes through the answer.
 use Prim.Native.Nat.{_-_, _≤_}
 use native.Mathlib.Omega.{arith}
 use lib.ListN.{length}

@@ -1,4 +1,4 @@
--- `units` goes through the answer. Assumes nothing.
+-- `units` goes through the answer.
 use mathlib.Core.Path.{_≡_}
 use Prim.Native.Nat.{_-_}
 use native.Mathlib.Omega.{arith}

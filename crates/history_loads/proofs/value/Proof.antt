@@ -1,4 +1,4 @@
--- `value` goes through the records. Assumes nothing.
+-- `value` goes through the records.
 use Prim.Native.Nat.{_-_, _≤_}
 use native.Mathlib.Omega.{arith}
 use borrow.Author.Needs.{needs}

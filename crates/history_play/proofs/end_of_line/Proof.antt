@@ -1,4 +1,4 @@
--- `end_of_line` goes through the line. Assumes nothing.
+-- `end_of_line` goes through the line.
 use Prim.Native.Nat.{_-_, _≤_}
 use native.Mathlib.Omega.{arith}
 use borrow.Author.Needs.{needs}

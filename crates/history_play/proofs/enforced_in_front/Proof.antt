@@ -1,4 +1,4 @@
--- `enforced_in_front`: the front is as long as the scratch was found to allow. Assumes nothing.
+-- `enforced_in_front`: the front is as long as the scratch was found to allow.
 use mathlib.Core.Path.{sym}
 use native.Mathlib.Omega.{arith}
 use borrow.Author.Needs.{needs}

@@ -1,4 +1,4 @@
--- `fill_words` goes through the words. Assumes nothing.
+-- `fill_words` goes through the words.
 use mathlib.Core.Path.{_≡_, refl}
 use Prim.Native.Nat.{_-_}
 use native.Mathlib.Omega.{arith}

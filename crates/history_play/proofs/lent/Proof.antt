@@ -1,4 +1,4 @@
--- `lent`: each part is as long as the buffers were found to allow. Assumes nothing.
+-- `lent`: each part is as long as the buffers were found to allow.
 use mathlib.Core.Path.{sym}
 use native.Mathlib.Omega.{arith}
 use borrow.Author.Needs.{needs}
@@ -22,28 +22,38 @@ returns-5 : tie.Need-returns-5
 returns-5 c = search needs
 
 slice-aggregate-turn : tie.Need-slice-aggregate-turn
-slice-aggregate-turn c = sym (length-take-le (c .before .before .before .before .before .before .before .before .before .before .before .args .w .inputs) (c .before .before .before .before .before .before .before .before .before .before .before .args .lits .now) (omega arith))
+slice-aggregate-turn c =
+    let args = c .before .before .before .before .before .before .before .before .before .before .before .args in
+    sym (length-take-le (args .w .inputs) (args .lits .now) (omega arith))
 
 slice-aggregate-turn-2 : tie.Need-slice-aggregate-turn-2
-slice-aggregate-turn-2 c = sym (length-take-le (c .before .before .before .before .before .before .before .before .before .before .before .before .args .w .inputs) (c .before .before .before .before .before .before .before .before .before .before .before .before .args .weights .now) (omega arith))
+slice-aggregate-turn-2 c =
+    let args = c .before .before .before .before .before .before .before .before .before .before .before .before .args in
+    sym (length-take-le (args .w .inputs) (args .weights .now) (omega arith))
 
 slice-relend-prefix-turn : tie.Need-slice-relend-prefix-turn
 slice-relend-prefix-turn c = search needs
 
 slice-aggregate-turn-3 : tie.Need-slice-aggregate-turn-3
-slice-aggregate-turn-3 c = sym (length-take-le (c .before .before .before .before .before .before .before .before .before .before .before .before .before .args .w .store) (c .before .before .before .before .before .before .before .before .before .before .before .before .before .args .store .now) (omega arith))
+slice-aggregate-turn-3 c =
+    let args = c .before .before .before .before .before .before .before .before .before .before .before .before .before .args in
+    sym (length-take-le (args .w .store) (args .store .now) (omega arith))
 
 slice-relend-prefix-turn-2 : tie.Need-slice-relend-prefix-turn-2
 slice-relend-prefix-turn-2 c = search needs
 
 slice-aggregate-turn-4 : tie.Need-slice-aggregate-turn-4
-slice-aggregate-turn-4 c = sym (length-take-le (c .before .before .before .before .before .before .before .before .before .before .before .before .before .before .args .w .clauses) (c .before .before .before .before .before .before .before .before .before .before .before .before .before .before .args .clauses .now) (omega arith))
+slice-aggregate-turn-4 c =
+    let args = c .before .before .before .before .before .before .before .before .before .before .before .before .before .before .args in
+    sym (length-take-le (args .w .clauses) (args .clauses .now) (omega arith))
 
 slice-relend-prefix-turn-3 : tie.Need-slice-relend-prefix-turn-3
 slice-relend-prefix-turn-3 c = search needs
 
 slice-aggregate-turn-5 : tie.Need-slice-aggregate-turn-5
-slice-aggregate-turn-5 c = sym (length-take-le (c .before .before .before .before .before .before .before .before .before .before .before .before .before .before .before .args .w .work) (c .before .before .before .before .before .before .before .before .before .before .before .before .before .before .before .args .work .now) (omega arith))
+slice-aggregate-turn-5 c =
+    let args = c .before .before .before .before .before .before .before .before .before .before .before .before .before .before .before .args in
+    sym (length-take-le (args .w .work) (args .work .now) (omega arith))
 
 turn-requires : tie.Need-turn-requires
 turn-requires c κs = search needs

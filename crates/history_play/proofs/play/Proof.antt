@@ -1,4 +1,4 @@
--- `play` goes through the lines; each call keeps the lengths. Assumes nothing.
+-- `play` goes through the lines; each call keeps the lengths.
 use mathlib.Core.Path.{_≡_, refl}
 use Prim.Native.Nat.{_-_}
 use native.Mathlib.Omega.{arith}

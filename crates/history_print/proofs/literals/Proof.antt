@@ -1,4 +1,4 @@
--- `literals` goes through the words. Assumes nothing.
+-- `literals` goes through the words.
 use Prim.Native.Nat.{_-_, _≤_}
 use native.Mathlib.Omega.{arith}
 use borrow.Author.Needs.{needs}

@@ -1,4 +1,4 @@
--- `words` goes through the words. Assumes nothing.
+-- `words` goes through the words.
 use Prim.Native.Nat.{_-_, _≤_}
 use native.Mathlib.Omega.{arith}
 use borrow.Author.Needs.{needs}

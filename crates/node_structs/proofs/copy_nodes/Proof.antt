@@ -1,5 +1,5 @@
 -- `copy_nodes`, a walk of its MIR by hand. The count of records that fit is asked of `fitting`; each turn of the loop asks `stored` for a
--- node, opens the borrow, writes its two fields into their place, and closes the borrow. Assumes nothing.
+-- node, opens the borrow, writes its two fields into their place, and closes the borrow.
 use mathlib.Core.Path.{_≡_, refl, sym, ap, subst}
 use mathlib.Core.Bool.{Bool}
 use Prim.Native.Nat.{ℕ, zero, suc, _+_, _*_, _/_, _<_, _^_, min}

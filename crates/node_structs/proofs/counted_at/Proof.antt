@@ -1,4 +1,4 @@
--- `counted_at`, a walk of its MIR by hand: the node is taken from the slice, and its maximum is handed to `counted`. Assumes nothing.
+-- `counted_at`, a walk of its MIR by hand: the node is taken from the slice, and its maximum is handed to `counted`.
 use mathlib.Core.Path.{_≡_, refl, ap, _∙_}
 use mathlib.Core.Bool.{Bool}
 use Prim.Native.Nat.{ℕ, _<_, _^_}

@@ -1,4 +1,4 @@
--- `fitting` is the least of three. Assumes nothing.
+-- `fitting` is the least of three.
 use mathlib.Core.Path.{ap, _∙_}
 use Prim.Native.Nat.{min}
 use borrow.Author.Needs.{needs}

@@ -1,5 +1,4 @@
 -- `former_half`, a walk of its MIR by hand: the link is taken from the bucket's node, and the node that it names is counted halved.
--- Assumes nothing.
 use mathlib.Core.Path.{_≡_, refl, ap, _∙_}
 use mathlib.Core.Bool.{true}
 use Prim.Native.Nat.{ℕ, _<_, _^_}

@@ -1,5 +1,5 @@
 -- `node_at`, a walk of its MIR by hand: the place of a node is 8 bytes times its number past the slice's pointer, and its two fields are read
--- there; past the end nothing is read. Assumes nothing.
+-- there; past the end nothing is read.
 use mathlib.Core.Path.{_≡_, refl, sym}
 use Prim.Native.Nat.{ℕ, _<_, _*_, _^_}
 use mathlib.Core.List.{List, [], _∷_}

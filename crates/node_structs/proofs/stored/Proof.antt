@@ -1,4 +1,4 @@
--- `stored` reads a node's words. Assumes nothing.
+-- `stored` reads a node's words.
 use borrow.Author.Needs.{needs}
 use Rattle.node_structs.proofs.Reading.{stored-none, stored-some}
 use Rattle.node_structs.proofs.stored.Statement.{statement}

@@ -1,4 +1,4 @@
--- `digits` counts halvings until nothing is left: the digits found so far and the bits of the rest are those of x. Assumes nothing.
+-- `digits` counts halvings until nothing is left: the digits found so far and the bits of the rest are those of x.
 use Prim.Native.Nat.{ℕ, _+_, _≤_}
 use mathlib.Core.Path.{_≡_, ap}
 use native.Mathlib.Omega.{arith}
@@ -17,7 +17,9 @@ loop-holds : tie.Need-loop-holds Inv-loop μ-loop
 loop-holds c = (digits-first _ (omega arith), omega arith, omega arith)
 
 returns : tie.Need-returns Inv-loop μ-loop
-returns c = (omega (arith, bits-none (c .before .before .loop .left), ap (bit-length (c .before .before .loop .left)) (c .if1 .taken)), omega arith)
+returns c =
+    let loop = c .before .before .loop in
+    (omega (arith, bits-none (loop .left), ap (bit-length (loop .left)) (c .if1 .taken)), omega arith)
 
 add-n : tie.Need-add-n Inv-loop μ-loop
 add-n c = omega arith
@@ -29,11 +31,15 @@ loop-less : tie.Need-loop-less Inv-loop μ-loop
 loop-less c = omega arith
 
 loop-again : tie.Need-loop-again Inv-loop μ-loop
-loop-again c = omega (arith, bits-more (c .before .before .loop .left) (c .before .before .loop .y) (c .before .loop-test .taken) (c .if1 .left))
+loop-again c =
+    let loop = c .before .before .loop in
+    omega (arith, bits-more (loop .left) (loop .y) (c .before .loop-test .taken) (c .if1 .left))
 
 returns-2 : tie.Need-returns-2 Inv-loop μ-loop
 unfolding bit-length
-returns-2 c = let e : c .before .loop .left ≡ 0 = omega arith in (omega (arith, ap (λ (k : ℕ). bit-length k (c .before .loop .y)) e), omega arith)
+returns-2 c =
+    let loop = c .before .loop in
+    let e : loop .left ≡ 0 = omega arith in (omega (arith, ap (λ (k : ℕ). bit-length k (loop .y)) e), omega arith)
 
 pub digits-spec : {M : Type 1} → statement M
 digits-spec =

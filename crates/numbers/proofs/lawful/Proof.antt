@@ -1,4 +1,4 @@
--- `lawful` tests both bounds and 0, and negates nothing. Assumes nothing.
+-- `lawful` tests both bounds and 0, and negates nothing.
 use mathlib.Core.Path.{sym, _∙_, ap}
 use mir.Syntax.{w32}
 use mir.Val.{toZ, ofZ}
@@ -17,7 +17,9 @@ returns-3 : tie.Need-returns-3
 returns-3 c = lawful-zero _ _ (toZ-ofZ (c .before .before .before .fits .x)) (ap (toZ w32) (c .if3 .taken))
 
 returns-4 : tie.Need-returns-4
-returns-4 c = lawful-some _ _ (toZ-ofZ (c .before .before .before .fits .x)) (c .before .before .if1 .left) (c .before .if2 .left) (λ q. c .if3 .left (ap (ofZ w32) (sym (toZ-ofZ (c .before .before .before .fits .x)) ∙ q)))
+returns-4 c =
+    let fits = c .before .before .before .fits in
+    lawful-some _ _ (toZ-ofZ (fits .x)) (c .before .before .if1 .left) (c .before .if2 .left) (λ q. c .if3 .left (ap (ofZ w32) (sym (toZ-ofZ (fits .x)) ∙ q)))
 
 pub lawful-spec : {M : Type 1} → statement M
 lawful-spec = tie.close (tie.spec returns returns-2 returns-3 returns-4)

@@ -1,4 +1,4 @@
--- `lawful_at` asks `lawful` of the number that stands there; 0, which stands past the end, is no literal. Assumes nothing.
+-- `lawful_at` asks `lawful` of the number that stands there; 0, which stands past the end, is no literal.
 use mathlib.Core.Path.{ap, _∙_, sym}
 use lib.ListN.{List·getD-eq-default}
 use lib.IntN.{pos}

@@ -1,4 +1,4 @@
--- `literal_word` doubles the size of a number whose bounds it tested, so that neither the negation nor the double wraps. Assumes nothing.
+-- `literal_word` doubles the size of a number whose bounds it tested, so that neither the negation nor the double wraps.
 use native.Mathlib.Omega.{arith}
 use mir.Syntax.{w32}
 use mir.Val.{toZ, ofZ}
@@ -17,19 +17,39 @@ sub-result : tie.Need-sub-result
 sub-result c = negation-fits (toZ w32 (ofZ w32 (c .before .before .before .args .x))) (c .before .before .if1 .left) (c .before .if2 .left) (c .if3 .taken)
 
 cast-result : tie.Need-cast-result
-cast-result c = rw (negation-is (toZ w32 (ofZ w32 (c .before .before .before .args .x))) (c .before .before .if1 .left) (c .before .if2 .left) (c .if3 .taken)) (tt, omega (arith, size (toZ w32 (ofZ w32 (c .before .before .before .args .x))) (c .before .before .if1 .left) (c .before .if2 .left)))
+cast-result c =
+    let if2 = c .before .if2 in
+    let if1 = c .before .before .if1 in
+    let args = c .before .before .before .args in
+    rw (negation-is (toZ w32 (ofZ w32 (args .x))) (if1 .left) (if2 .left) (c .if3 .taken)) (tt, omega (arith, size (toZ w32 (ofZ w32 (args .x))) (if1 .left) (if2 .left)))
 
 mul-result : tie.Need-mul-result
-mul-result c = rw (negation-is (toZ w32 (ofZ w32 (c .before .before .before .args .x))) (c .before .before .if1 .left) (c .before .if2 .left) (c .if3 .taken)) (omega (arith, size (toZ w32 (ofZ w32 (c .before .before .before .args .x))) (c .before .before .if1 .left) (c .before .if2 .left)))
+mul-result c =
+    let if2 = c .before .if2 in
+    let if1 = c .before .before .if1 in
+    let args = c .before .before .before .args in
+    rw (negation-is (toZ w32 (ofZ w32 (args .x))) (if1 .left) (if2 .left) (c .if3 .taken)) (omega (arith, size (toZ w32 (ofZ w32 (args .x))) (if1 .left) (if2 .left)))
 
 add-result : tie.Need-add-result
-add-result c = rw (negation-is (toZ w32 (ofZ w32 (c .before .before .before .args .x))) (c .before .before .if1 .left) (c .before .if2 .left) (c .if3 .taken)) (omega (arith, size (toZ w32 (ofZ w32 (c .before .before .before .args .x))) (c .before .before .if1 .left) (c .before .if2 .left)))
+add-result c =
+    let if2 = c .before .if2 in
+    let if1 = c .before .before .if1 in
+    let args = c .before .before .before .args in
+    rw (negation-is (toZ w32 (ofZ w32 (args .x))) (if1 .left) (if2 .left) (c .if3 .taken)) (omega (arith, size (toZ w32 (ofZ w32 (args .x))) (if1 .left) (if2 .left)))
 
 returns-3 : tie.Need-returns-3
-returns-3 c = rw (negation-is (toZ w32 (ofZ w32 (c .before .before .before .args .x))) (c .before .before .if1 .left) (c .before .if2 .left) (c .if3 .taken)) (word-negative (toZ w32 (ofZ w32 (c .before .before .before .args .x))) (c .before .before .if1 .left) (c .before .if2 .left) (c .if3 .taken) _ (toZ-ofZ (c .before .before .before .fits .x)))
+returns-3 c =
+    let if2 = c .before .if2 in
+    let if1 = c .before .before .if1 in
+    let args = c .before .before .before .args in
+    rw (negation-is (toZ w32 (ofZ w32 (args .x))) (if1 .left) (if2 .left) (c .if3 .taken)) (word-negative (toZ w32 (ofZ w32 (args .x))) (if1 .left) (if2 .left) (c .if3 .taken) _ (toZ-ofZ (c .before .before .before .fits .x)))
 
 cast-result-2 : tie.Need-cast-result-2
-cast-result-2 c = (not-negative (toZ w32 (ofZ w32 (c .before .before .before .args .x))) (c .before .before .if1 .left) (c .before .if2 .left) (c .if3 .left), omega (arith, size (toZ w32 (ofZ w32 (c .before .before .before .args .x))) (c .before .before .if1 .left) (c .before .if2 .left)))
+cast-result-2 c =
+    let if2 = c .before .if2 in
+    let if1 = c .before .before .if1 in
+    let args = c .before .before .before .args in
+    (not-negative (toZ w32 (ofZ w32 (args .x))) (if1 .left) (if2 .left) (c .if3 .left), omega (arith, size (toZ w32 (ofZ w32 (args .x))) (if1 .left) (if2 .left)))
 
 mul-result-2 : tie.Need-mul-result-2
 mul-result-2 c = omega (arith, size (toZ w32 (ofZ w32 (c .before .before .before .args .x))) (c .before .before .if1 .left) (c .before .if2 .left))

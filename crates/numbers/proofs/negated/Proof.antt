@@ -1,4 +1,4 @@
--- `negated` adds the bit that says negation, or takes it away; words 0 and 1 name no variable. Assumes nothing.
+-- `negated` adds the bit that says negation, or takes it away; words 0 and 1 name no variable.
 use Rattle.numbers.proofs.Literals.{negated-small, negated-even, negated-odd}
 use borrow.Author.Needs.{needs}
 use Rattle.numbers.proofs.negated.Statement.{statement}

@@ -1,4 +1,4 @@
--- `power` shifts 1; past 63 the power is a multiple of 2^64. Assumes nothing.
+-- `power` shifts 1; past 63 the power is a multiple of 2^64.
 use Rattle.numbers.proofs.Bits.{power-over}
 use borrow.Author.Needs.{needs}
 use Rattle.numbers.proofs.power.Statement.{statement}

@@ -1,4 +1,4 @@
--- `put_signed` writes what `signed` gives where the place exists, and nothing elsewhere. Assumes nothing.
+-- `put_signed` writes what `signed` gives where the place exists, and nothing elsewhere.
 use borrow.Author.Needs.{sfits-of}
 use mir.Syntax.{w32}
 use mathlib.Core.Path.{sym}
@@ -28,7 +28,9 @@ returns c = rw (toZ-ofZ {w = w32} (sfits-of (c .signed .ok)), c .signed .ensures
 
 returns-2 : tie.Need-returns-2
 unfolding put-signed
-returns-2 c = sym (set-out (c .before .args .c .now) (c .before .args .i) (word-literal (c .before .args .w)) (c .if1 .left))
+returns-2 c =
+    let args = c .before .args in
+    sym (set-out (args .c .now) (args .i) (word-literal (args .w)) (c .if1 .left))
 
 pub put-signed-spec : {M : Type 1} → statement M
 put-signed-spec =

@@ -1,4 +1,4 @@
--- `signed` halves the word, which always fits, and negates an odd one. Assumes nothing.
+-- `signed` halves the word, which always fits, and negates an odd one.
 use Prim.Native.Nat.{_/_}
 use mathlib.Core.Path.{sym, _∙_}
 use native.Mathlib.Omega.{arith}

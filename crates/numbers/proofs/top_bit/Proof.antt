@@ -1,4 +1,4 @@
--- `top_bit` is one below `digits`, which is 1 or more. Assumes nothing.
+-- `top_bit` is one below `digits`, which is 1 or more.
 use Prim.Native.Nat.{ℕ, _-_}
 use mathlib.Core.Path.{ap}
 use native.Mathlib.Omega.{arith}

@@ -1,4 +1,4 @@
--- `variable` halves the word. Assumes nothing.
+-- `variable` halves the word.
 use Rattle.numbers.proofs.Literals.{word-variable}
 use Rattle.numbers.proofs.variable.Statement.{statement}
 use Rattle.numbers.proofs.variable.Tie as tie

@@ -1,4 +1,4 @@
--- `word_at` asks `literal_word` of the number that stands there; 0, which stands past the end, has none. Assumes nothing.
+-- `word_at` asks `literal_word` of the number that stands there; 0, which stands past the end, has none.
 use mathlib.Core.Path.{ap, _∙_, sym}
 use lib.ListN.{List·getD-eq-default}
 use lib.IntN.{pos}

@@ -1,4 +1,4 @@
--- `coarse` takes the weight of the outputs, 2 to the tares. Assumes nothing.
+-- `coarse` takes the weight of the outputs, 2 to the tares.
 use Rattle.precision_steps.proofs.Bound.{coarse-unbuilt, coarse-built}
 use borrow.Author.Needs.{needs}
 use native.Mathlib.Omega.{arith}

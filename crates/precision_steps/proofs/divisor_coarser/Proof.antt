@@ -1,4 +1,4 @@
--- `divisor_coarser` compares after 0 was taken as 1. Assumes nothing.
+-- `divisor_coarser` compares after 0 was taken as 1.
 use Rattle.precision_steps.proofs.Divisor.{unbuilt-finer, built-coarser}
 use borrow.Author.Needs.{needs}
 use Rattle.precision_steps.proofs.divisor_coarser.Statement.{statement}

@@ -1,4 +1,4 @@
--- `divisor_of` takes 0 as 1. Assumes nothing.
+-- `divisor_of` takes 0 as 1.
 use Rattle.precision_steps.proofs.Divisor.{divisor-zero, divisor-kept}
 use Rattle.precision_steps.proofs.divisor_of.Statement.{statement}
 use Rattle.precision_steps.proofs.divisor_of.Tie as tie

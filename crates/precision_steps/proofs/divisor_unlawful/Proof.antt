@@ -1,4 +1,4 @@
--- `divisor_unlawful` lets 0 and the powers of two pass. Assumes nothing.
+-- `divisor_unlawful` lets 0 and the powers of two pass.
 use Rattle.precision_steps.proofs.Divisor.{zero-lawful, power-lawful}
 use borrow.Author.Needs.{needs}
 use Rattle.precision_steps.proofs.divisor_unlawful.Statement.{statement}

@@ -1,4 +1,4 @@
--- `largest` walks from the first record on: the larger of what was seen and what is left is the largest of all. Assumes nothing.
+-- `largest` walks from the first record on: the larger of what was seen and what is left is the largest of all.
 use Prim.Native.Nat.{_≤_, _-_, max}
 use Rattle.records.specs.Carries.{Stores}
 use Rattle.rules.specs.Build.{largest}

@@ -1,4 +1,4 @@
--- `next` raises 2 to the top bit of the largest waiting weight. Assumes nothing.
+-- `next` raises 2 to the top bit of the largest waiting weight.
 use Rattle.precision_steps.proofs.Bound.{top-power}
 use borrow.Author.Needs.{needs}
 use Rattle.precision_steps.proofs.next.Statement.{statement}
@@ -17,7 +17,9 @@ power-requires : tie.Need-power-requires
 power-requires c κs = search needs
 
 returns : tie.Need-returns
-returns c = λ rs h. top-power _ _ _ _ (c .before .top-bit .ensures .0) (c .before .top-bit .ensures .1) (c .power .ensures) (c .before .before .largest .ensures rs h)
+returns c =
+    let top-bit = c .before .top-bit in
+    λ rs h. top-power _ _ _ _ (top-bit .ensures .0) (top-bit .ensures .1) (c .power .ensures) (c .before .before .largest .ensures rs h)
 
 pub next-spec : {M : Type 1} → statement M
 next-spec =

@@ -1,4 +1,4 @@
--- `set` takes the tests in their order. Assumes nothing.
+-- `set` takes the tests in their order.
 use Rattle.precision_steps.proofs.Divisor.{set-12, set-8, set-9, set-0}
 use borrow.Author.Needs.{needs}
 use mathlib.Core.Path.{_∙_, sym}

@@ -1,4 +1,4 @@
--- `some_wait` walks from the first record on: nothing before i waits. Assumes nothing.
+-- `some_wait` walks from the first record on: nothing before i waits.
 use Prim.Native.Nat.{_≤_, _-_}
 use Rattle.records.specs.Carries.{Stores}
 use Rattle.rules.specs.Build.{some-wait}

@@ -1,4 +1,4 @@
--- `waits` reads the kind of a record. Assumes nothing.
+-- `waits` reads the kind of a record.
 use Rattle.precision_steps.proofs.Waiting.{waits-here}
 use borrow.Author.Needs.{needs}
 use Rattle.precision_steps.proofs.waits.Statement.{statement}

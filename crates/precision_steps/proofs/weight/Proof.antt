@@ -1,4 +1,4 @@
--- `weight` reads the kind of a record, then its weight. Assumes nothing.
+-- `weight` reads the kind of a record, then its weight.
 use Rattle.precision_steps.proofs.Waiting.{weight-here, no-weight-here}
 use borrow.Author.Needs.{needs}
 use Rattle.precision_steps.proofs.weight.Statement.{statement}

@@ -1,4 +1,4 @@
--- `with_set` keeps every field but the divisor set. Assumes nothing.
+-- `with_set` keeps every field but the divisor set.
 use Rattle.rules.specs.Precision.{with-set}
 use mathlib.Core.Path.{refl}
 use Rattle.precision_steps.proofs.with_set.Statement.{statement}

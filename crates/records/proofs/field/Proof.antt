@@ -1,4 +1,4 @@
--- `field` reads a word of a record that is used and whole. Assumes nothing.
+-- `field` reads a word of a record that is used and whole.
 use Rattle.records.proofs.Leaves.{field-past, field-beyond, field-none, field-some}
 use borrow.Author.Needs.{needs}
 use Rattle.records.proofs.field.Statement.{statement}

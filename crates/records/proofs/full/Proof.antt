@@ -1,4 +1,4 @@
--- `full` copies all marks but the full mark. Assumes nothing.
+-- `full` copies all marks but the full mark.
 use mathlib.Core.Path.{refl}
 use Rattle.records.specs.Words.{full-of}
 use Rattle.records.proofs.full.Statement.{statement}

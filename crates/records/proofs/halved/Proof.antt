@@ -1,4 +1,4 @@
--- `halved` reads the halving of a join. Assumes nothing.
+-- `halved` reads the halving of a join.
 use Rattle.records.proofs.Read.{halved-none, halved-some}
 use borrow.Author.Needs.{needs}
 use Rattle.records.proofs.halved.Statement.{statement}

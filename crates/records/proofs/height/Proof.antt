@@ -1,4 +1,4 @@
--- `height` reads the sixth word, which is 0 where there is no node. Assumes nothing.
+-- `height` reads the sixth word, which is 0 where there is no node.
 use mathlib.Core.Path.{_∙_}
 use Rattle.records.proofs.Read.{height-is}
 use borrow.Author.Needs.{needs}

@@ -1,4 +1,4 @@
--- `joins` compares the kind. Assumes nothing.
+-- `joins` compares the kind.
 use Rattle.records.proofs.Read.{joins-is}
 use borrow.Author.Needs.{needs}
 use Rattle.records.proofs.joins.Statement.{statement}

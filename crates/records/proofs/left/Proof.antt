@@ -1,4 +1,4 @@
--- `left` reads the left link of a join. Assumes nothing.
+-- `left` reads the left link of a join.
 use Rattle.records.proofs.Read.{left-none, left-some}
 use borrow.Author.Needs.{needs}
 use Rattle.records.proofs.left.Statement.{statement}

@@ -1,4 +1,4 @@
--- `maximum` reads the fifth word, which is 0 where there is no node. Assumes nothing.
+-- `maximum` reads the fifth word, which is 0 where there is no node.
 use mathlib.Core.Path.{_∙_}
 use Rattle.records.proofs.Read.{maximum-is}
 use borrow.Author.Needs.{needs}

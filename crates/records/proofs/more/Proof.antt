@@ -1,4 +1,4 @@
--- `more` adds 1 below the top, so nothing wraps. Assumes nothing.
+-- `more` adds 1 below the top, so nothing wraps.
 use Rattle.records.proofs.Leaves.{more-yes, more-no}
 use borrow.Author.Needs.{needs}
 use Rattle.records.proofs.more.Statement.{statement}

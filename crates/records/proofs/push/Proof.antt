@@ -1,4 +1,4 @@
--- `push` writes where there is a word and moves the mark past it. Assumes nothing.
+-- `push` writes where there is a word and moves the mark past it.
 use Rattle.records.proofs.Leaves.{push-in, push-out}
 use borrow.Author.Needs.{needs}
 use Rattle.records.proofs.push.Statement.{statement}

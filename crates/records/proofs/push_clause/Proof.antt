@@ -1,4 +1,4 @@
--- `push_clause` writes both sides, the output and the closing 0, each where the one before ends. Assumes nothing.
+-- `push_clause` writes both sides, the output and the closing 0, each where the one before ends.
 use Rattle.records.proofs.Leaves.{clause-pushed}
 use borrow.Author.Needs.{needs}
 use Rattle.records.proofs.push_clause.Statement.{statement}

@@ -1,4 +1,4 @@
--- `push_side` writes nothing for a side that is left out. Assumes nothing.
+-- `push_side` writes nothing for a side that is left out.
 use Rattle.records.proofs.Leaves.{side-none, side-some}
 use borrow.Author.Needs.{needs}
 use Rattle.records.proofs.push_side.Statement.{statement}

@@ -1,4 +1,4 @@
--- `put` writes where there is a word. Assumes nothing.
+-- `put` writes where there is a word.
 use mathlib.Core.Path.{sym}
 use lib.Seq.{set-out}
 use Rattle.records.specs.Words.{put-word}
@@ -21,7 +21,9 @@ returns c = search needs
 
 returns-2 : tie.Need-returns-2
 unfolding put-word
-returns-2 c = sym (set-out (c .before .args .s .now) (c .before .args .i) (c .before .args .w) (c .if1 .left))
+returns-2 c =
+    let args = c .before .args in
+    sym (set-out (args .s .now) (args .i) (args .w) (c .if1 .left))
 
 pub put-spec : {M : Type 1} → statement M
 put-spec = tie.close (tie.spec mul-s slice-write-s same-length returns returns-2)

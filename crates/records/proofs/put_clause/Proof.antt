@@ -1,4 +1,4 @@
--- `put_clause` measures the clause first: where it fits, its words follow the used ones, and where it does not, no state that it leads to fits. Assumes nothing.
+-- `put_clause` measures the clause first: where it fits, its words follow the used ones, and where it does not, no state that it leads to fits.
 use native.Mathlib.Omega.{arith}
 use Rattle.records.proofs.Leaves.{width-le}
 use Rattle.records.proofs.Clause.{clause-stop, clause-past, clause-long, clause-done}
@@ -25,10 +25,14 @@ width-requires-2 : tie.Need-width-requires-2
 width-requires-2 c κs = search needs
 
 add-if3 : tie.Need-add-if3
-add-if3 c = omega (arith, c .before .width .ensures, c .width2 .ensures, width-le (c .before .before .before .before .args .p), width-le (c .before .before .before .before .args .q))
+add-if3 c =
+    let args = c .before .before .before .before .args in
+    omega (arith, c .before .width .ensures, c .width2 .ensures, width-le (args .p), width-le (args .q))
 
 add-if3-2 : tie.Need-add-if3-2
-add-if3-2 c = omega (arith, c .before .width .ensures, c .width2 .ensures, width-le (c .before .before .before .before .args .p), width-le (c .before .before .before .before .args .q))
+add-if3-2 c =
+    let args = c .before .before .before .before .args in
+    omega (arith, c .before .width .ensures, c .width2 .ensures, width-le (args .p), width-le (args .q))
 
 full-requires-2 : tie.Need-full-requires-2
 full-requires-2 c κs = search needs

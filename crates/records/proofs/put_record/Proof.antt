@@ -1,4 +1,4 @@
--- `put_record` writes eight words, one after the other, where a whole record lies. Assumes nothing.
+-- `put_record` writes eight words, one after the other, where a whole record lies.
 use Rattle.records.proofs.Leaves.{record-none, record-some}
 use borrow.Author.Needs.{needs}
 use Rattle.records.proofs.put_record.Statement.{statement}

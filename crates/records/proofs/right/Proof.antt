@@ -1,4 +1,4 @@
--- `right` reads the right link of a join. Assumes nothing.
+-- `right` reads the right link of a join.
 use Rattle.records.proofs.Read.{right-none, right-some}
 use borrow.Author.Needs.{needs}
 use Rattle.records.proofs.right.Statement.{statement}

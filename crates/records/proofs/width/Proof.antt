@@ -1,4 +1,4 @@
--- `width` tests for the word that is no literal's. Assumes nothing.
+-- `width` tests for the word that is no literal's.
 use Rattle.records.proofs.Leaves.{width-none, width-one}
 use Rattle.records.proofs.width.Statement.{statement}
 use Rattle.records.proofs.width.Tie as tie

@@ -1,4 +1,4 @@
--- `word` reads where there is a word. Assumes nothing.
+-- `word` reads where there is a word.
 use mathlib.Core.Path.{sym}
 use lib.ListN.{List·getD-eq-default}
 use Rattle.records.specs.Words.{word-at}

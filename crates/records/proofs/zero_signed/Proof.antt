@@ -1,4 +1,4 @@
--- `zero_signed` has set all words from the mark up to i. Assumes nothing.
+-- `zero_signed` has set all words from the mark up to i.
 use mathlib.Core.Path.{_≡_, refl, _∙_}
 use Prim.Native.Nat.{_≤_, _-_, max}
 use native.Mathlib.Omega.{arith}
@@ -31,13 +31,18 @@ loop-less c = omega arith
 
 loop-again : tie.Need-loop-again Inv-loop μ-loop
 unfolding put-signed word-literal
-loop-again c = (zero-turn (pos 0) _ _ _ _ _ (c .before .before .before .before .loop .inv .1) (c .before .before .before .loop-test .taken) (c .before .before .before .before .loop .inv .3) (c .before .before .before .before .loop .inv .0) (c .before .put-signed .ensures), omega arith, omega arith, c .before .put-signed .kept .0 ∙ c .before .before .before .before .loop .inv .3)
+loop-again c =
+    let put-signed = c .before .put-signed in
+    let loop = c .before .before .before .before .loop in
+    (zero-turn (pos 0) _ _ _ _ _ (loop .inv .1) (c .before .before .before .loop-test .taken) (loop .inv .3) (loop .inv .0) (put-signed .ensures), omega arith, omega arith, put-signed .kept .0 ∙ loop .inv .3)
 
 same-length : tie.Need-same-length Inv-loop μ-loop
 same-length c = c .before .loop .inv .3
 
 returns : tie.Need-returns Inv-loop μ-loop
-returns c = zero-end (pos 0) _ _ _ _ (c .before .loop .inv .1) (c .before .loop .inv .2) (c .loop-test .left) (c .before .loop .inv .3) (c .before .loop .inv .0)
+returns c =
+    let loop = c .before .loop in
+    zero-end (pos 0) _ _ _ _ (loop .inv .1) (loop .inv .2) (c .loop-test .left) (loop .inv .3) (loop .inv .0)
 
 pub zero-signed-spec : {M : Type 1} → statement M
 zero-signed-spec =

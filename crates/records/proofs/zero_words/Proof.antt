@@ -1,4 +1,4 @@
--- `zero_words` has set all words from the mark up to i. Assumes nothing.
+-- `zero_words` has set all words from the mark up to i.
 use mathlib.Core.Path.{_≡_, refl, _∙_}
 use Prim.Native.Nat.{_≤_, _-_, max}
 use native.Mathlib.Omega.{arith}
@@ -16,7 +16,9 @@ abbrev μ-loop : tie.MeasureT-loop
 μ-loop s₀ from i₀ s i = length s₀ - i
 
 loop-holds : tie.Need-loop-holds Inv-loop μ-loop
-loop-holds c = (zero-start 0 (c .before .args .s .now) (c .before .args .from), omega arith, omega arith, refl)
+loop-holds c =
+    let args = c .before .args in
+    (zero-start 0 (args .s .now) (args .from), omega arith, omega arith, refl)
 
 put-requires : tie.Need-put-requires Inv-loop μ-loop
 put-requires c κs = search needs
@@ -29,13 +31,18 @@ loop-less c = omega arith
 
 loop-again : tie.Need-loop-again Inv-loop μ-loop
 unfolding put-word
-loop-again c = (zero-turn 0 _ _ _ _ _ (c .before .before .before .before .before .loop .inv .1) (c .before .before .before .before .loop-test .taken) (c .before .before .before .before .before .loop .inv .3) (c .before .before .before .before .before .loop .inv .0) (c .before .before .put .ensures), omega arith, omega arith, c .before .before .put .kept .0 ∙ c .before .before .before .before .before .loop .inv .3)
+loop-again c =
+    let put = c .before .before .put in
+    let loop = c .before .before .before .before .before .loop in
+    (zero-turn 0 _ _ _ _ _ (loop .inv .1) (c .before .before .before .before .loop-test .taken) (loop .inv .3) (loop .inv .0) (put .ensures), omega arith, omega arith, put .kept .0 ∙ loop .inv .3)
 
 same-length : tie.Need-same-length Inv-loop μ-loop
 same-length c = c .before .loop .inv .3
 
 returns : tie.Need-returns Inv-loop μ-loop
-returns c = zero-end 0 _ _ _ _ (c .before .loop .inv .1) (c .before .loop .inv .2) (c .loop-test .left) (c .before .loop .inv .3) (c .before .loop .inv .0)
+returns c =
+    let loop = c .before .loop in
+    zero-end 0 _ _ _ _ (loop .inv .1) (loop .inv .2) (c .loop-test .left) (loop .inv .3) (loop .inv .0)
 
 pub zero-words-spec : {M : Type 1} → statement M
 zero-words-spec =

@@ -1,4 +1,4 @@
--- `above` adds one to the larger. Assumes nothing.
+-- `above` adds one to the larger.
 use borrow.Author.Needs.{needs}
 use Rattle.records_append.proofs.above.Statement.{statement}
 use Rattle.records_append.proofs.above.Tie as tie

@@ -1,4 +1,4 @@
--- `append` writes a record's words where the records end, if a whole record lies there and its place fits a word; where not, no state that it leads to fits. Assumes nothing.
+-- `append` writes a record's words where the records end, if a whole record lies there and its place fits a word; where not, no state that it leads to fits.
 use native.Mathlib.Omega.{arith}
 use Rattle.records_append.proofs.Appending.{append-stop, append-room, append-place, append-done}
 use borrow.Author.Needs.{needs}

@@ -1,4 +1,4 @@
--- `counted` halves behind a halving. Assumes nothing.
+-- `counted` halves behind a halving.
 use mathlib.Core.Path.{sym, ap}
 use mathlib.Core.Bool.{Bool}
 use Rattle.rules.specs.Totalizer.{counts}

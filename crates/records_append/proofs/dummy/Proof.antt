@@ -1,4 +1,4 @@
--- `dummy` appends the words of a dummy. Assumes nothing.
+-- `dummy` appends the words of a dummy.
 use Rattle.records_append.proofs.Appending.{dummy-done}
 use borrow.Author.Needs.{needs}
 use Rattle.records_append.proofs.dummy.Statement.{statement}

@@ -1,4 +1,4 @@
--- `join` computes maximum and height in 64 bits: where one does not fit a word, no state that it leads to fits; else it appends the words of the node that the rule makes. Assumes nothing.
+-- `join` computes maximum and height in 64 bits: where one does not fit a word, no state that it leads to fits; else it appends the words of the node that the rule makes.
 use Rattle.records_append.proofs.Appending.{join-stop, join-over-top, join-over-high, join-done}
 use borrow.Author.Needs.{needs}
 use Rattle.records_append.proofs.join.Statement.{statement}

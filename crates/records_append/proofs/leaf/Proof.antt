@@ -1,4 +1,4 @@
--- `leaf` appends the words of a leaf. Assumes nothing.
+-- `leaf` appends the words of a leaf.
 use Rattle.records_append.proofs.Appending.{leaf-done}
 use borrow.Author.Needs.{needs}
 use Rattle.records_append.proofs.leaf.Statement.{statement}

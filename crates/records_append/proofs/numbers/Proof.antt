@@ -1,4 +1,4 @@
--- `numbers` stops before a number above 1,000,000,000 would be taken. Assumes nothing.
+-- `numbers` stops before a number above 1,000,000,000 would be taken.
 use mathlib.Core.Path.{sym, _∙_}
 use mathlib.Core.Bool.{true≢false}
 use Rattle.records_append.proofs.Appending.{fresh-stop, fresh-end, fresh-done, full-not}
@@ -25,7 +25,9 @@ add-t7 : tie.Need-add-t7
 add-t7 c = search needs
 
 returns-3 : tie.Need-returns-3
-returns-3 c = (λ s b. fresh-done s b _ _ (c .before .before .before .if1 .left) (c .before .if2 .left), λ z. c .before .if2 .left)
+returns-3 c =
+    let if2 = c .before .if2 in
+    (λ s b. fresh-done s b _ _ (c .before .before .before .if1 .left) (if2 .left), λ z. if2 .left)
 
 pub numbers-spec : {M : Type 1} → statement M
 numbers-spec =

@@ -1,4 +1,4 @@
--- `output` appends the words of an output with the next number, and then takes that number. Assumes nothing.
+-- `output` appends the words of an output with the next number, and then takes that number.
 use Rattle.records_append.proofs.Appending.{output-stop, output-end, output-done}
 use borrow.Author.Needs.{needs}
 use Rattle.records_append.proofs.output.Statement.{statement}

@@ -1,4 +1,4 @@
--- `sum` adds in a width that holds it. Assumes nothing.
+-- `sum` adds in a width that holds it.
 use borrow.Author.Needs.{needs}
 use Rattle.records_append.proofs.sum.Statement.{statement}
 use Rattle.records_append.proofs.sum.Tie as tie

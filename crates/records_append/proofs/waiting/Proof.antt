@@ -1,4 +1,4 @@
--- `waiting` appends the words of a waiting entry. Assumes nothing.
+-- `waiting` appends the words of a waiting entry.
 use Rattle.records_append.proofs.Appending.{waiting-done}
 use borrow.Author.Needs.{needs}
 use Rattle.records_append.proofs.waiting.Statement.{statement}

@@ -1,4 +1,4 @@
--- `former_half` reads the maximum of the right link. Assumes nothing.
+-- `former_half` reads the maximum of the right link.
 use borrow.Author.Needs.{needs}
 use Rattle.refine_links.proofs.Halves.{half-is}
 use Rattle.refine_links.proofs.former_half.Statement.{statement}

@@ -1,4 +1,4 @@
--- `former_halves` has read the halves of the first i buckets. Assumes nothing.
+-- `former_halves` has read the halves of the first i buckets.
 use mathlib.Core.Path.{_≡_, refl}
 use mathlib.Core.List.{List, map}
 use Prim.Native.Nat.{_≤_, _-_}
@@ -43,10 +43,14 @@ loop-less : tie.Need-loop-less Inv-loop μ-loop
 loop-less c = omega arith
 
 loop-again : tie.Need-loop-again Inv-loop μ-loop
-loop-again c = (λ rs h. map-turn (former-half rs) (c .before .before .before .before .args .t3) (c .before .before .loop .halves) _ _ (search needs) (search needs) (c .former-half .ensures rs h) (c .before .before .loop .inv .0 rs h), search needs, omega arith, rest-turn (c .before .before .loop .halves) (c .before .before .loop .i) _ 20 (omega arith) (c .before .before .loop .inv .3))
+loop-again c =
+    let loop = c .before .before .loop in
+    (λ rs h. map-turn (former-half rs) (c .before .before .before .before .args .t3) (loop .halves) _ _ (search needs) (search needs) (c .former-half .ensures rs h) (loop .inv .0 rs h), search needs, omega arith, rest-turn (loop .halves) (loop .i) _ 20 (omega arith) (loop .inv .3))
 
 returns : tie.Need-returns Inv-loop μ-loop
-returns c = (λ rs h. map-end (former-half rs) _ _ _ _ (c .before .loop .inv .2) (c .loop-test .left) (c .before .loop .inv .0 rs h), (rest-end _ _ _ _ (c .before .loop .inv .2) (c .loop-test .left) (c .before .loop .inv .3), c .before .loop .inv .1))
+returns c =
+    let loop = c .before .loop in
+    (λ rs h. map-end (former-half rs) _ _ _ _ (loop .inv .2) (c .loop-test .left) (loop .inv .0 rs h), (rest-end _ _ _ _ (loop .inv .2) (c .loop-test .left) (loop .inv .3), loop .inv .1))
 
 pub former-halves-spec : {M : Type 1} → statement M
 former-halves-spec =

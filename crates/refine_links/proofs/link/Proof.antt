@@ -1,4 +1,4 @@
--- `link` computes maximum and height in 64 bits: where one does not fit a word nothing is written, else the words of the bucket, patched. Assumes nothing.
+-- `link` computes maximum and height in 64 bits: where one does not fit a word nothing is written, else the words of the bucket, patched.
 use native.Mathlib.Omega.{arith}
 use borrow.Author.Needs.{needs}
 use Rattle.refine_links.proofs.Linking.{bucket-put, link-over, link-done}
@@ -60,7 +60,9 @@ same-length-3 : tie.Need-same-length-3
 same-length-3 c = search needs
 
 returns-3 : tie.Need-returns-3
-returns-3 c = link-done _ _ _ _ _ _ _ _ _ _ _ _ (c .before .before .before .before .before .before .before .before .before .before .before .before .before .before .before .before .before .before .before .before .left .ensures) (c .before .before .before .before .before .before .before .before .before .before .before .before .before .before .before .before .before .before .maximum .ensures) (c .before .before .before .before .before .before .before .before .before .before .before .before .before .before .before .before .before .counted .ensures) (c .before .before .before .before .before .before .before .before .before .before .before .before .before .before .before .maximum2 .ensures) (c .before .before .before .before .before .before .before .before .before .before .before .before .before .before .sum .ensures) (c .before .before .before .before .before .before .before .before .before .before .before .before .height .ensures) (c .before .before .before .before .before .before .before .before .before .before .height2 .ensures) (c .before .before .before .before .before .before .before .before .before .above .ensures) _ (c .before .before .put-bucket .kept .0) (c .before .before .before .before .before .before .before .before .if1 .left) (c .before .before .before .before .before .before .before .if2 .left) (bucket-put _ _ _ _ _ _ _ _ (c .before .before .before .patched .ensures) (c .before .before .put-bucket .ensures))
+returns-3 c =
+    let put-bucket = c .before .before .put-bucket in
+    link-done _ _ _ _ _ _ _ _ _ _ _ _ (c .before .before .before .before .before .before .before .before .before .before .before .before .before .before .before .before .before .before .before .before .left .ensures) (c .before .before .before .before .before .before .before .before .before .before .before .before .before .before .before .before .before .before .maximum .ensures) (c .before .before .before .before .before .before .before .before .before .before .before .before .before .before .before .before .before .counted .ensures) (c .before .before .before .before .before .before .before .before .before .before .before .before .before .before .before .maximum2 .ensures) (c .before .before .before .before .before .before .before .before .before .before .before .before .before .before .sum .ensures) (c .before .before .before .before .before .before .before .before .before .before .before .before .height .ensures) (c .before .before .before .before .before .before .before .before .before .before .height2 .ensures) (c .before .before .before .before .before .before .before .before .before .above .ensures) _ (put-bucket .kept .0) (c .before .before .before .before .before .before .before .before .if1 .left) (c .before .before .before .before .before .before .before .if2 .left) (bucket-put _ _ _ _ _ _ _ _ (c .before .before .before .patched .ensures) (put-bucket .ensures))
 
 pub link-spec : {M : Type 1} → statement M
 link-spec =

@@ -1,5 +1,5 @@
 -- `patch`, a walk of its MIR by hand: the borrow is opened, the right link is written, and the borrow is closed at the bucket with the new
--- link there and the other fields as they were. Assumes nothing.
+-- link there and the other fields as they were.
 use mathlib.Core.Path.{refl}
 use Prim.Native.Nat.{ℕ, _<_, _^_}
 use mathlib.Core.List.{[], _∷_, List}

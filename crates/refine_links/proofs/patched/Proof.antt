@@ -1,5 +1,5 @@
 -- `patched`, a walk of its MIR by hand: a local bucket is lent to `patch` for a lifetime made for the call, comes back at its last value,
--- and is returned. Of `patch` it knows the contract alone. Assumes nothing.
+-- and is returned. Of `patch` it knows the contract alone.
 use mathlib.Core.Path.{_≡_, refl, sym, ap, subst}
 use Prim.Native.Nat.{ℕ, _<_, _^_}
 use mathlib.Core.List.{[], _∷_, List}

@@ -1,4 +1,4 @@
--- `put_bucket` writes a bucket as a join whose right side is halved. Assumes nothing.
+-- `put_bucket` writes a bucket as a join whose right side is halved.
 use borrow.Author.Needs.{needs}
 use Rattle.refine_links.proofs.put_bucket.Statement.{statement}
 use Rattle.refine_links.proofs.put_bucket.Tie as tie

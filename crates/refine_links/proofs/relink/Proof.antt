@@ -1,4 +1,4 @@
--- `relink` goes through the buckets from the last one: those that are left, linked from here, are all of them. Assumes nothing.
+-- `relink` goes through the buckets from the last one: those that are left, linked from here, are all of them.
 use mathlib.Core.Path.{_≡_, refl, _∙_}
 use Prim.Native.Nat.{_≤_}
 use native.Mathlib.Omega.{arith}
@@ -34,13 +34,18 @@ same-length : tie.Need-same-length Inv-loop μ-loop
 same-length c = c .before .before .before .link .kept .0 ∙ c .before .before .before .before .before .before .loop .inv .2
 
 returns : tie.Need-returns Inv-loop μ-loop
-returns c = relink-over _ _ _ _ _ _ _ (search needs) _ _ _ (omega (arith, c .before .before .before .before .before .loop-test .taken)) (c .before .before .before .before .before .before .loop .inv .1) (not-true _ (c .if1 .taken)) (c .before .before .before .before .before .before .loop .inv .0) (c .before .before .before .link .ensures)
+returns c =
+    let loop = c .before .before .before .before .before .before .loop in
+    relink-over _ _ _ _ _ _ _ (search needs) _ _ _ (omega (arith, c .before .before .before .before .before .loop-test .taken)) (loop .inv .1) (not-true _ (c .if1 .taken)) (loop .inv .0) (c .before .before .before .link .ensures)
 
 loop-less : tie.Need-loop-less Inv-loop μ-loop
 loop-less c = omega arith
 
 loop-again : tie.Need-loop-again Inv-loop μ-loop
-loop-again c = (relink-turn _ _ _ _ _ _ _ (search needs) _ _ _ (omega (arith, c .before .before .before .before .before .loop-test .taken)) (c .before .before .before .before .before .before .loop .inv .1) (not-false _ (c .if1 .left)) (c .before .before .before .before .before .before .loop .inv .0) (c .before .before .before .link .ensures), omega arith, c .before .before .before .link .kept .0 ∙ c .before .before .before .before .before .before .loop .inv .2)
+loop-again c =
+    let link = c .before .before .before .link in
+    let loop = c .before .before .before .before .before .before .loop in
+    (relink-turn _ _ _ _ _ _ _ (search needs) _ _ _ (omega (arith, c .before .before .before .before .before .loop-test .taken)) (loop .inv .1) (not-false _ (c .if1 .left)) (loop .inv .0) (link .ensures), omega arith, link .kept .0 ∙ loop .inv .2)
 
 same-length-2 : tie.Need-same-length-2 Inv-loop μ-loop
 same-length-2 c = c .before .loop .inv .2

@@ -1,4 +1,4 @@
--- `extend_bucket` goes through the old records: those that are left, extended from here, are all of them. Assumes nothing.
+-- `extend_bucket` goes through the old records: those that are left, extended from here, are all of them.
 use mathlib.Core.Path.{_≡_, refl, _∙_}
 use Prim.Native.Nat.{_≤_, _-_}
 use native.Mathlib.Omega.{arith}
@@ -28,7 +28,10 @@ loop-less : tie.Need-loop-less Inv-loop μ-loop
 loop-less c = omega arith
 
 loop-again : tie.Need-loop-again Inv-loop μ-loop
-loop-again c = (going-turn _ _ _ _ _ _ _ (omega (arith, c .before .before .before .before .before .before .loop-test .taken)) (c .before .before .before .extend-record .ensures) (c .before .before .before .before .before .before .before .loop .inv .0), omega arith, c .before .before .before .extend-record .kept .0 ∙ c .before .before .before .before .before .before .before .loop .inv .2, c .before .before .before .extend-record .kept .1 .0 ∙ c .before .before .before .before .before .before .before .loop .inv .3)
+loop-again c =
+    let extend-record = c .before .before .before .extend-record in
+    let loop = c .before .before .before .before .before .before .before .loop in
+    (going-turn _ _ _ _ _ _ _ (omega (arith, c .before .before .before .before .before .before .loop-test .taken)) (extend-record .ensures) (loop .inv .0), omega arith, extend-record .kept .0 ∙ loop .inv .2, extend-record .kept .1 .0 ∙ loop .inv .3)
 
 same-length : tie.Need-same-length Inv-loop μ-loop
 same-length c = c .before .loop .inv .2

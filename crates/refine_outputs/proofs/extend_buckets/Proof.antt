@@ -1,4 +1,4 @@
--- `extend_buckets` goes through the buckets from the last one: those that are left, extended from here, are all of them. Assumes nothing.
+-- `extend_buckets` goes through the buckets from the last one: those that are left, extended from here, are all of them.
 use mathlib.Core.Path.{_≡_, refl, _∙_}
 use Prim.Native.Nat.{_≤_}
 use native.Mathlib.Omega.{arith}
@@ -40,7 +40,10 @@ loop-less : tie.Need-loop-less Inv-loop μ-loop
 loop-less c = omega arith
 
 loop-again : tie.Need-loop-again Inv-loop μ-loop
-loop-again c = (passing-turn _ _ _ _ (c .before .before .before .before .before .before .before .before .before .args .t5) _ _ (search needs) _ (omega (arith, c .before .before .before .before .before .before .loop-test .taken)) (c .before .before .before .before .before .before .before .loop .inv .1) (c .before .before .before .before .before .before .before .loop .inv .0) (c .before .before .before .extend-bucket .ensures), omega arith, c .before .before .before .extend-bucket .kept .0 ∙ c .before .before .before .before .before .before .before .loop .inv .2, c .before .before .before .extend-bucket .kept .1 .0 ∙ c .before .before .before .before .before .before .before .loop .inv .3)
+loop-again c =
+    let extend-bucket = c .before .before .before .extend-bucket in
+    let loop = c .before .before .before .before .before .before .before .loop in
+    (passing-turn _ _ _ _ (c .before .before .before .before .before .before .before .before .before .args .t5) _ _ (search needs) _ (omega (arith, c .before .before .before .before .before .before .loop-test .taken)) (loop .inv .1) (loop .inv .0) (extend-bucket .ensures), omega arith, extend-bucket .kept .0 ∙ loop .inv .2, extend-bucket .kept .1 .0 ∙ loop .inv .3)
 
 same-length : tie.Need-same-length Inv-loop μ-loop
 same-length c = c .before .loop .inv .2

@@ -1,4 +1,4 @@
--- `extend_record` reads whether the record is an output of the node, and then its value and number. Assumes nothing.
+-- `extend_record` reads whether the record is an output of the node, and then its value and number.
 use borrow.Author.Needs.{needs}
 use Rattle.refine_outputs.proofs.Extending.{at-stop, at-none, at-other, at-done}
 use Rattle.refine_outputs.proofs.extend_record.Statement.{statement}

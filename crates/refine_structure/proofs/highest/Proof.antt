@@ -1,4 +1,4 @@
--- `highest` reads the first of the buckets made. Assumes nothing.
+-- `highest` reads the first of the buckets made.
 use native.Mathlib.Omega.{arith}
 use Rattle.refine_structure.proofs.Segments.{highest-none, highest-is}
 use borrow.Author.Needs.{needs}

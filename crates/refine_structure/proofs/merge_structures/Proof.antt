@@ -1,4 +1,4 @@
--- `merge_structures` makes the tower of the new powers and renews the old buckets over it. Assumes nothing.
+-- `merge_structures` makes the tower of the new powers and renews the old buckets over it.
 use mathlib.Core.Path.{_∙_}
 use native.Mathlib.Omega.{arith}
 use Rattle.refine_structure.proofs.Merging.{spans, within, counted, positive, queued, tares-small, merge-done}
@@ -22,7 +22,11 @@ cast-new-tares-2 : tie.Need-cast-new-tares-2
 cast-new-tares-2 c = search needs
 
 new-tares-requires : tie.Need-new-tares-requires
-new-tares-requires c κs = (counted _ _ _ _ _ _ (c .before .before .before .before .before .before .pre) _ _ (c .before .before .before .top-bit .ensures .0) (c .before .before .top-bit2 .ensures .0) .2, counted _ _ _ _ _ _ (c .before .before .before .before .before .before .pre) _ _ (c .before .before .before .top-bit .ensures .0) (c .before .before .top-bit2 .ensures .0) .3)
+new-tares-requires c κs =
+    let top-bit2 = c .before .before .top-bit2 in
+    let top-bit = c .before .before .before .top-bit in
+    let pre = c .before .before .before .before .before .before .pre in
+    (counted _ _ _ _ _ _ pre _ _ (top-bit .ensures .0) (top-bit2 .ensures .0) .2, counted _ _ _ _ _ _ pre _ _ (top-bit .ensures .0) (top-bit2 .ensures .0) .3)
 
 cast-used : tie.Need-cast-used
 cast-used c = search needs
@@ -31,7 +35,9 @@ former-halves-requires : tie.Need-former-halves-requires
 former-halves-requires c κs = omega (arith, within _ _ _ _ _ _ (c .before .before .before .before .before .before .before .before .before .before .pre) .1)
 
 segment-requires : tie.Need-segment-requires
-segment-requires c κs = (queued _ _ _ _ _ _ (c .before .before .before .before .before .before .before .before .before .before .before .before .before .pre), positive _ _ _ _ _ _ (c .before .before .before .before .before .before .before .before .before .before .before .before .before .pre), spans _ _ _ _ _ _ (c .before .before .before .before .before .before .before .before .before .before .before .before .before .pre), tares-small _ _ _ _ _ _ (c .before .before .before .before .before .before .before .before .before .before .before .before .before .pre) _ (counted _ _ _ _ _ _ (c .before .before .before .before .before .before .before .before .before .before .before .before .before .pre) _ _ (c .before .before .before .before .before .before .before .before .before .before .top-bit .ensures .0) (c .before .before .before .before .before .before .before .before .before .top-bit2 .ensures .0) .1) _ (c .before .before .before .before .before .before .new-tares .ensures))
+segment-requires c κs =
+    let pre = c .before .before .before .before .before .before .before .before .before .before .before .before .before .pre in
+    (queued _ _ _ _ _ _ pre, positive _ _ _ _ _ _ pre, spans _ _ _ _ _ _ pre, tares-small _ _ _ _ _ _ pre _ (counted _ _ _ _ _ _ pre _ _ (c .before .before .before .before .before .before .before .before .before .before .top-bit .ensures .0) (c .before .before .before .before .before .before .before .before .before .top-bit2 .ensures .0) .1) _ (c .before .before .before .before .before .before .new-tares .ensures))
 
 highest-requires : tie.Need-highest-requires
 highest-requires c κs = omega (arith, c .before .before .before .before .before .segment .ensures .2, within _ _ _ _ _ _ (c .before .before .before .before .before .before .before .before .before .before .before .before .before .before .before .before .before .before .before .pre) .1)
@@ -43,7 +49,10 @@ sub-append-buckets : tie.Need-sub-append-buckets
 sub-append-buckets c = omega (arith, c .before .before .before .before .before .before .before .before .before .before .before .before .before .before .segment .ensures .2, within _ _ _ _ _ _ (c .before .before .before .before .before .before .before .before .before .before .before .before .before .before .before .before .before .before .before .before .before .before .before .before .before .before .before .before .pre) .1)
 
 append-buckets-requires : tie.Need-append-buckets-requires
-append-buckets-requires c κs = (omega (arith, c .before .before .before .before .before .before .before .before .before .before .before .before .before .before .segment .ensures .2, within _ _ _ _ _ _ (c .before .before .before .before .before .before .before .before .before .before .before .before .before .before .before .before .before .before .before .before .before .before .before .before .before .before .before .before .pre) .1), omega (arith, c .before .before .before .before .before .before .before .before .before .before .before .before .before .before .segment .ensures .2, within _ _ _ _ _ _ (c .before .before .before .before .before .before .before .before .before .before .before .before .before .before .before .before .before .before .before .before .before .before .before .before .before .before .before .before .pre) .1, c .before .before .before .before .before .before .before .before .before .before .before .before .before .before .segment .ensures .1, c .before .before .before .before .before .before .before .before .before .before .before .before .before .before .before .before .before .before .before .before .before .before .before .before .before .before .before .before .pre .long))
+append-buckets-requires c κs =
+    let segment = c .before .before .before .before .before .before .before .before .before .before .before .before .before .before .segment in
+    let pre = c .before .before .before .before .before .before .before .before .before .before .before .before .before .before .before .before .before .before .before .before .before .before .before .before .before .before .before .before .pre in
+    (omega (arith, segment .ensures .2, within _ _ _ _ _ _ pre .1), omega (arith, segment .ensures .2, within _ _ _ _ _ _ pre .1, segment .ensures .1, pre .long))
 
 add-t17 : tie.Need-add-t17
 add-t17 c = omega (arith, counted _ _ _ _ _ _ (c .before .before .before .before .before .before .before .before .before .before .before .before .before .before .before .before .before .before .before .before .before .before .before .before .before .before .before .before .before .before .pre) _ _ (c .before .before .before .before .before .before .before .before .before .before .before .before .before .before .before .before .before .before .before .before .before .before .before .before .before .before .before .top-bit .ensures .0) (c .before .before .before .before .before .before .before .before .before .before .before .before .before .before .before .before .before .before .before .before .before .before .before .before .before .before .top-bit2 .ensures .0) .2)
@@ -64,7 +73,12 @@ same-length-3 : tie.Need-same-length-3
 same-length-3 c = c .before .before .before .before .before .before .before .before .before .before .before .before .before .before .before .before .before .before .segment .ensures .1
 
 returns : tie.Need-returns
-returns c = (merge-done _ _ _ _ _ _ (c .before .before .before .before .before .before .before .before .before .before .before .before .before .before .before .before .before .before .before .before .before .before .before .before .before .before .before .before .before .before .before .before .pre) _ (counted _ _ _ _ _ _ (c .before .before .before .before .before .before .before .before .before .before .before .before .before .before .before .before .before .before .before .before .before .before .before .before .before .before .before .before .before .before .before .before .pre) _ _ (c .before .before .before .before .before .before .before .before .before .before .before .before .before .before .before .before .before .before .before .before .before .before .before .before .before .before .before .before .before .top-bit .ensures .0) (c .before .before .before .before .before .before .before .before .before .before .before .before .before .before .before .before .before .before .before .before .before .before .before .before .before .before .before .before .top-bit2 .ensures .0) .1) _ (c .before .before .before .before .before .before .before .before .before .before .before .before .before .before .before .before .before .before .before .before .before .before .before .before .before .new-tares .ensures) _ (c .before .before .before .before .before .before .before .before .before .before .before .before .before .before .before .before .before .before .before .before .before .former-halves .ensures .0) _ _ _ (c .before .before .before .before .before .before .before .before .before .before .before .before .before .before .before .before .before .before .segment .ensures .0) (c .before .before .before .before .before .before .before .before .before .before .before .before .before .before .before .before .before .before .segment .ensures .1) (c .before .before .before .before .before .before .before .before .before .before .before .before .before .before .before .before .before .before .segment .ensures .2) _ (c .before .before .before .before .before .before .before .before .before .before .before .before .highest .ensures) _ (c .before .before .before .before .before .before .before .before .before .renew .ensures) _ _ (c .before .before .before .append-buckets .ensures), c .before .before .before .before .before .before .before .before .before .before .before .before .before .before .before .before .before .before .segment .ensures .1, c .before .before .before .before .before .before .before .before .before .before .before .before .before .before .before .before .before .before .segment .ensures .3, omega (arith, counted _ _ _ _ _ _ (c .before .before .before .before .before .before .before .before .before .before .before .before .before .before .before .before .before .before .before .before .before .before .before .before .before .before .before .before .before .before .before .before .pre) _ _ (c .before .before .before .before .before .before .before .before .before .before .before .before .before .before .before .before .before .before .before .before .before .before .before .before .before .before .before .before .before .top-bit .ensures .0) (c .before .before .before .before .before .before .before .before .before .before .before .before .before .before .before .before .before .before .before .before .before .before .before .before .before .before .before .before .top-bit2 .ensures .0) .2), omega (arith, c .before .before .before .before .before .before .before .before .before .before .before .before .before .before .before .before .before .before .segment .ensures .2, within _ _ _ _ _ _ (c .before .before .before .before .before .before .before .before .before .before .before .before .before .before .before .before .before .before .before .before .before .before .before .before .before .before .before .before .before .before .before .before .pre) .1))
+returns c =
+    let segment = c .before .before .before .before .before .before .before .before .before .before .before .before .before .before .before .before .before .before .segment in
+    let top-bit2 = c .before .before .before .before .before .before .before .before .before .before .before .before .before .before .before .before .before .before .before .before .before .before .before .before .before .before .before .before .top-bit2 in
+    let top-bit = c .before .before .before .before .before .before .before .before .before .before .before .before .before .before .before .before .before .before .before .before .before .before .before .before .before .before .before .before .before .top-bit in
+    let pre = c .before .before .before .before .before .before .before .before .before .before .before .before .before .before .before .before .before .before .before .before .before .before .before .before .before .before .before .before .before .before .before .before .pre in
+    (merge-done _ _ _ _ _ _ pre _ (counted _ _ _ _ _ _ pre _ _ (top-bit .ensures .0) (top-bit2 .ensures .0) .1) _ (c .before .before .before .before .before .before .before .before .before .before .before .before .before .before .before .before .before .before .before .before .before .before .before .before .before .new-tares .ensures) _ (c .before .before .before .before .before .before .before .before .before .before .before .before .before .before .before .before .before .before .before .before .before .former-halves .ensures .0) _ _ _ (segment .ensures .0) (segment .ensures .1) (segment .ensures .2) _ (c .before .before .before .before .before .before .before .before .before .before .before .before .highest .ensures) _ (c .before .before .before .before .before .before .before .before .before .renew .ensures) _ _ (c .before .before .before .append-buckets .ensures), segment .ensures .1, segment .ensures .3, omega (arith, counted _ _ _ _ _ _ pre _ _ (top-bit .ensures .0) (top-bit2 .ensures .0) .2), omega (arith, segment .ensures .2, within _ _ _ _ _ _ pre .1))
 
 pub merge-structures-spec : {M : Type 1} → statement M
 merge-structures-spec =

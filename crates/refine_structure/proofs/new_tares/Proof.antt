@@ -1,4 +1,4 @@
--- `new_tares` puts the state's tares behind the new ones. Assumes nothing.
+-- `new_tares` puts the state's tares behind the new ones.
 use Rattle.laws.specs.Facts.{rising-length}
 use borrow.Author.Needs.{needs}
 use Rattle.refine_structure.proofs.new_tares.Statement.{statement}

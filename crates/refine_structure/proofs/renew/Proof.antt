@@ -1,4 +1,4 @@
--- `renew` links the buckets anew where their sizes fit, then extends. Assumes nothing.
+-- `renew` links the buckets anew where their sizes fit, then extends.
 use borrow.Author.Tests.{not-true, not-false}
 use Rattle.refine_structure.proofs.Renewing.{renew-full, renew-over, renew-done}
 use borrow.Author.Needs.{needs}

@@ -1,4 +1,4 @@
--- `segment` is the tower of the state's powers. Assumes nothing.
+-- `segment` is the tower of the state's powers.
 use native.Mathlib.Omega.{arith}
 use Rattle.refine_structure.proofs.Spanning.{spans-within, segment-small, segment-made, segment-few}
 use borrow.Author.Needs.{needs}
@@ -42,7 +42,11 @@ cast-tower : tie.Need-cast-tower
 cast-tower c = search needs
 
 tower-requires : tie.Need-tower-requires
-tower-requires c κs = (c .before .before .before .before .before .before .before .before .pre .0, c .before .before .before .before .before .before .before .before .pre .1, omega (arith, spans-within _ _ _ (c .before .before .before .before .before .top-bit .ensures .0) (c .before .before .before .before .top-bit2 .ensures .0) (c .before .before .before .before .before .before .before .before .pre .2) .2), omega (arith, spans-within _ _ _ (c .before .before .before .before .before .top-bit .ensures .0) (c .before .before .before .before .top-bit2 .ensures .0) (c .before .before .before .before .before .before .before .before .pre .2) .3), omega (arith, spans-within _ _ _ (c .before .before .before .before .before .top-bit .ensures .0) (c .before .before .before .before .top-bit2 .ensures .0) (c .before .before .before .before .before .before .before .before .pre .2) .4), segment-small _ _ _ (c .before .before .before .before .before .top-bit .ensures .0) (c .before .before .before .before .top-bit2 .ensures .0) (c .before .before .before .before .before .before .before .before .pre .2) _ _ (c .before .before .before .before .before .before .before .before .pre .3))
+tower-requires c κs =
+    let top-bit2 = c .before .before .before .before .top-bit2 in
+    let top-bit = c .before .before .before .before .before .top-bit in
+    let pre = c .before .before .before .before .before .before .before .before .pre in
+    (pre .0, pre .1, omega (arith, spans-within _ _ _ (top-bit .ensures .0) (top-bit2 .ensures .0) (pre .2) .2), omega (arith, spans-within _ _ _ (top-bit .ensures .0) (top-bit2 .ensures .0) (pre .2) .3), omega (arith, spans-within _ _ _ (top-bit .ensures .0) (top-bit2 .ensures .0) (pre .2) .4), segment-small _ _ _ (top-bit .ensures .0) (top-bit2 .ensures .0) (pre .2) _ _ (pre .3))
 
 same-length : tie.Need-same-length
 same-length c = search needs
@@ -51,7 +55,12 @@ same-length-2 : tie.Need-same-length-2
 same-length-2 c = search needs
 
 returns : tie.Need-returns
-returns c = (segment-made _ _ _ (c .before .before .before .before .before .before .before .before .before .before .top-bit .ensures .0) (c .before .before .before .before .before .before .before .before .before .top-bit2 .ensures .0) (c .before .before .before .before .before .before .before .before .before .before .before .before .before .pre .2) _ _ _ _ _ _ _ _ (c .before .before .before .before .tower .ensures .0), c .before .before .before .before .tower .ensures .1, segment-few _ _ _ (c .before .before .before .before .before .before .before .before .before .before .top-bit .ensures .0) (c .before .before .before .before .before .before .before .before .before .top-bit2 .ensures .0) (c .before .before .before .before .before .before .before .before .before .before .before .before .before .pre .2) _ (c .before .before .before .before .tower .ensures .2), c .before .before .before .before .tower .ensures .3)
+returns c =
+    let tower = c .before .before .before .before .tower in
+    let top-bit2 = c .before .before .before .before .before .before .before .before .before .top-bit2 in
+    let top-bit = c .before .before .before .before .before .before .before .before .before .before .top-bit in
+    let pre = c .before .before .before .before .before .before .before .before .before .before .before .before .before .pre in
+    (segment-made _ _ _ (top-bit .ensures .0) (top-bit2 .ensures .0) (pre .2) _ _ _ _ _ _ _ _ (tower .ensures .0), tower .ensures .1, segment-few _ _ _ (top-bit .ensures .0) (top-bit2 .ensures .0) (pre .2) _ (tower .ensures .2), tower .ensures .3)
 
 pub segment-spec : {M : Type 1} → statement M
 segment-spec =

@@ -1,4 +1,4 @@
--- `fresh_unlawful` tests the number, then the variables. Assumes nothing.
+-- `fresh_unlawful` tests the number, then the variables.
 use borrow.Author.Needs.{needs}
 use Rattle.start_lists.proofs.Order.{fresh-none, fresh-high, fresh-rest}
 use Rattle.start_lists.proofs.fresh_unlawful.Statement.{statement}

@@ -1,4 +1,4 @@
--- `lists_differ` compares the lengths. Assumes nothing.
+-- `lists_differ` compares the lengths.
 use Rattle.start_lists.proofs.Order.{lengths-differ, lengths-same}
 use Rattle.start_lists.proofs.lists_differ.Statement.{statement}
 use Rattle.start_lists.proofs.lists_differ.Tie as tie

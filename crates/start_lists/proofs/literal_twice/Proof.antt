@@ -1,4 +1,4 @@
--- `literal_twice` looks for each word after its place. Assumes nothing.
+-- `literal_twice` looks for each word after its place.
 use mathlib.Core.Path.{_≡_, refl, sym, ap, _∙_}
 use mathlib.Core.Bool.{not}
 use Prim.Native.Nat.{_-_, _≤_}

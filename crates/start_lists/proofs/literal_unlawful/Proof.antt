@@ -1,4 +1,4 @@
--- `literal_unlawful` stops at the first number that is no literal. Assumes nothing.
+-- `literal_unlawful` stops at the first number that is no literal.
 use mathlib.Core.Path.{_≡_, refl, sym, _∙_}
 use Prim.Native.Nat.{_-_, _≤_}
 use native.Mathlib.Omega.{arith}
@@ -28,7 +28,9 @@ lawful-at-requires c κs = search needs
 
 returns : tie.Need-returns Inv-loop μ-loop
 unfolding literal-unlawful signed-at
-returns c = all-stop lawful (pos 0) _ _ _ (c .before .before .before .loop .inv .0) (c .before .before .loop-test .taken) (sym (c .before .lawful-at .ensures) ∙ not-true (c .before .lawful-at .result) (c .if1 .taken))
+returns c =
+    let lawful-at = c .before .lawful-at in
+    all-stop lawful (pos 0) _ _ _ (c .before .before .before .loop .inv .0) (c .before .before .loop-test .taken) (sym (lawful-at .ensures) ∙ not-true (lawful-at .result) (c .if1 .taken))
 
 add-i : tie.Need-add-i Inv-loop μ-loop
 add-i c = omega arith
@@ -38,7 +40,9 @@ loop-less c = omega arith
 
 loop-again : tie.Need-loop-again Inv-loop μ-loop
 unfolding signed-at
-loop-again c = (all-on lawful (pos 0) _ _ _ (c .before .before .before .loop .inv .0) (c .before .before .loop-test .taken) (sym (c .before .lawful-at .ensures) ∙ not-false (c .before .lawful-at .result) (c .if1 .left)), omega arith)
+loop-again c =
+    let lawful-at = c .before .lawful-at in
+    (all-on lawful (pos 0) _ _ _ (c .before .before .before .loop .inv .0) (c .before .before .loop-test .taken) (sym (lawful-at .ensures) ∙ not-false (lawful-at .result) (c .if1 .left)), omega arith)
 
 returns-2 : tie.Need-returns-2 Inv-loop μ-loop
 unfolding literal-unlawful

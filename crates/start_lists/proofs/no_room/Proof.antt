@@ -1,4 +1,4 @@
--- `no_room` compares the capacity, which few inputs never reach past. Assumes nothing.
+-- `no_room` compares the capacity, which few inputs never reach past.
 use Rattle.start_lists.proofs.Order.{room}
 use borrow.Author.Needs.{needs}
 use Rattle.start_lists.proofs.no_room.Statement.{statement}

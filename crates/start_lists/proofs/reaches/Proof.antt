@@ -1,4 +1,4 @@
--- `reaches` stops at the first variable that is not below. Assumes nothing.
+-- `reaches` stops at the first variable that is not below.
 use mathlib.Core.Path.{_≡_, refl}
 use Prim.Native.Nat.{_-_}
 use native.Mathlib.Omega.{arith}

@@ -1,4 +1,4 @@
--- `stands` walks until the word is met. Assumes nothing.
+-- `stands` walks until the word is met.
 use mathlib.Core.Path.{_≡_, refl, sym, _∙_}
 use Prim.Native.Nat.{_-_}
 use native.Mathlib.Omega.{arith}

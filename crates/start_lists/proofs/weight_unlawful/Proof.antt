@@ -1,4 +1,4 @@
--- `weight_unlawful` stops at the first weight that is 0 or too large. Assumes nothing.
+-- `weight_unlawful` stops at the first weight that is 0 or too large.
 use mathlib.Core.Path.{_≡_, refl}
 use Prim.Native.Nat.{_-_, _≤_}
 use native.Mathlib.Omega.{arith}

@@ -1,4 +1,4 @@
--- `finish` writes the clauses with the next number before it takes that number. Assumes nothing.
+-- `finish` writes the clauses with the next number before it takes that number.
 use Rattle.totalizer_clauses.proofs.Clauses.{word-of-number, finish-stop, finish-end, finish-done}
 use borrow.Author.Needs.{needs}
 use Rattle.totalizer_clauses.proofs.finish.Statement.{statement}

@@ -1,4 +1,4 @@
--- `pair_clause` puts what both sides add before the output. Assumes nothing.
+-- `pair_clause` puts what both sides add before the output.
 use Rattle.totalizer_clauses.proofs.Clauses.{clause-stop, clause-done}
 use borrow.Author.Needs.{needs}
 use Rattle.totalizer_clauses.proofs.pair_clause.Statement.{statement}

@@ -1,4 +1,4 @@
--- `spread` counts from what the right maximum leaves of v up to the smaller of v and the left maximum. Assumes nothing.
+-- `spread` counts from what the right maximum leaves of v up to the smaller of v and the left maximum.
 use native.Mathlib.Omega.{arith}
 use Prim.Native.Nat.{_<_}
 use Rattle.totalizer_clauses.proofs.Pairs.{spread-is}
@@ -25,7 +25,9 @@ span-requires : tie.Need-span-requires
 span-requires c κs = search needs
 
 returns : tie.Need-returns
-returns c = let i : c .before .before .before .before .before .maximum .result < 4294967296 = omega (arith, c .before .before .before .before .before .maximum .ok) in spread-is _ _ _ _ _ _ _ _ _ _ _ _ i (c .before .before .before .before .before .maximum .ensures) (c .before .before .before .before .counted .ensures) (c .before .before .before .maximum2 .ensures) (c .before .before .less .ensures) (c .before .lower .ensures) (c .span .ensures)
+returns c =
+    let maximum = c .before .before .before .before .before .maximum in
+    let i : maximum .result < 4294967296 = omega (arith, maximum .ok) in spread-is _ _ _ _ _ _ _ _ _ _ _ _ i (maximum .ensures) (c .before .before .before .before .counted .ensures) (c .before .before .before .maximum2 .ensures) (c .before .before .less .ensures) (c .before .lower .ensures) (c .span .ensures)
 
 pub spread-spec : {M : Type 1} → statement M
 spread-spec =

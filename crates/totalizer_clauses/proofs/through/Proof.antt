@@ -1,4 +1,4 @@
--- `through` doubles behind a halving. Assumes nothing.
+-- `through` doubles behind a halving.
 use Rattle.totalizer_clauses.proofs.Clauses.{through-far, through-half, through-whole}
 use borrow.Author.Needs.{needs}
 use Rattle.totalizer_clauses.proofs.through.Statement.{statement}

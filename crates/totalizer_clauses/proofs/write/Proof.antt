@@ -1,4 +1,4 @@
--- `write` goes through the pairs: the clauses that are left, written from here, are all of them. Assumes nothing.
+-- `write` goes through the pairs: the clauses that are left, written from here, are all of them.
 use mathlib.Core.Path.{_≡_, refl, _∙_}
 use Prim.Native.Nat.{ℕ, _+_, _-_, _<_, _≤_}
 use native.Mathlib.Omega.{arith}
@@ -48,7 +48,10 @@ loop-less : tie.Need-loop-less Inv-loop μ-loop
 loop-less c = omega arith
 
 loop-again : tie.Need-loop-again Inv-loop μ-loop
-loop-again c = (λ w e i. clauses-turn _ _ _ _ _ _ _ w _ _ _ (c .before .before .before .before .loop-test .taken) (c .before .pair-clause .ensures w e (asks-later _ _ _ _ (c .before .before .before .before .before .loop .inv .2) i)) (c .before .before .before .before .before .loop .inv .0 w e i), omega arith, omega arith, c .before .pair-clause .kept .1 .0 ∙ c .before .before .before .before .before .loop .inv .3)
+loop-again c =
+    let pair-clause = c .before .pair-clause in
+    let loop = c .before .before .before .before .before .loop in
+    (λ w e i. clauses-turn _ _ _ _ _ _ _ w _ _ _ (c .before .before .before .before .loop-test .taken) (pair-clause .ensures w e (asks-later _ _ _ _ (loop .inv .2) i)) (loop .inv .0 w e i), omega arith, omega arith, pair-clause .kept .1 .0 ∙ loop .inv .3)
 
 same-length-2 : tie.Need-same-length-2 Inv-loop μ-loop
 same-length-2 c = c .before .loop .inv .3

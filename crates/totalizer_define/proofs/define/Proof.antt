@@ -1,4 +1,4 @@
--- `define` starts with the node's own height. Assumes nothing.
+-- `define` starts with the node's own height.
 use Rattle.totalizer_define.proofs.Defining.{output-stop, output-done}
 use borrow.Author.Needs.{needs}
 use Rattle.totalizer_define.proofs.define.Statement.{statement}

@@ -1,4 +1,4 @@
--- `define_from` goes through the values: those that are left, defined from here, are all of them. Assumes nothing.
+-- `define_from` goes through the values: those that are left, defined from here, are all of them.
 use mathlib.Core.Path.{_≡_, refl, _∙_}
 use Prim.Native.Nat.{_+_}
 use native.Mathlib.Omega.{arith}
@@ -47,7 +47,10 @@ loop-less : tie.Need-loop-less Inv-loop μ-loop
 loop-less c = omega arith
 
 loop-again : tie.Need-loop-again Inv-loop μ-loop
-loop-again c = (outputs-turn _ _ _ _ _ _ _ (c .before .before .before .before .before .before .before .loop-test .taken) (c .before .before .before .define .ensures) (c .before .before .before .before .before .before .before .before .loop .inv .0), omega arith, c .before .before .before .define .kept .0 ∙ c .before .before .before .before .before .before .before .before .loop .inv .2, c .before .before .before .define .kept .1 .0 ∙ c .before .before .before .before .before .before .before .before .loop .inv .3)
+loop-again c =
+    let define = c .before .before .before .define in
+    let loop = c .before .before .before .before .before .before .before .before .loop in
+    (outputs-turn _ _ _ _ _ _ _ (c .before .before .before .before .before .before .before .loop-test .taken) (define .ensures) (loop .inv .0), omega arith, define .kept .0 ∙ loop .inv .2, define .kept .1 .0 ∙ loop .inv .3)
 
 same-length-3 : tie.Need-same-length-3 Inv-loop μ-loop
 same-length-3 c = c .before .loop .inv .2

@@ -1,4 +1,4 @@
--- `extend` counts the first pairs, those whose b exceeds the bound, asks for what they use and then writes their clauses. Assumes nothing.
+-- `extend` counts the first pairs, those whose b exceeds the bound, asks for what they use and then writes their clauses.
 use Rattle.totalizer_clauses.proofs.Pairs.{span-fewer}
 use Rattle.totalizer_define.proofs.Defining.{extend-stop, extend-done}
 use borrow.Author.Needs.{needs}

@@ -1,4 +1,4 @@
--- `find` walks from the first record on: what stands before i is not the output, so the number among the rest is the number among all. Assumes nothing.
+-- `find` walks from the first record on: what stands before i is not the output, so the number among the rest is the number among all.
 use mathlib.Core.Path.{_≡_, refl, sym, _∙_}
 use mathlib.Core.List.{List}
 use Prim.Native.Nat.{_≤_, _-_}

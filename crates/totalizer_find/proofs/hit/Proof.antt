@@ -1,4 +1,4 @@
--- `hit` compares kind, node and value. Assumes nothing.
+-- `hit` compares kind, node and value.
 use Rattle.totalizer_find.proofs.Walk.{hit-other, hit-elsewhere, hit-value}
 use borrow.Author.Needs.{needs}
 use Rattle.totalizer_find.proofs.hit.Statement.{statement}

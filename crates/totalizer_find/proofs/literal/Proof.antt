@@ -1,4 +1,4 @@
--- `literal` reads a leaf's literal and finds any other output. Assumes nothing.
+-- `literal` reads a leaf's literal and finds any other output.
 use Rattle.totalizer_find.proofs.Walk.{literal-leaf, literal-found}
 use borrow.Author.Needs.{needs}
 use Rattle.totalizer_find.proofs.literal.Statement.{statement}

@@ -1,4 +1,4 @@
--- `side` negates the output's literal, and leaves out a side that is 0. Assumes nothing.
+-- `side` negates the output's literal, and leaves out a side that is 0.
 use Rattle.totalizer_find.proofs.Walk.{side-none, side-some}
 use borrow.Author.Needs.{needs}
 use Rattle.totalizer_find.proofs.side.Statement.{statement}

@@ -1,4 +1,4 @@
--- Both halves are merged before their join, each shorter than the whole. Assumes nothing.
+-- Both halves are merged before their join, each shorter than the whole.
 use mathlib.Core.Path.{sym, _∙_}
 use Prim.Native.Nat.{_/_, _-_}
 use native.Mathlib.Omega.{arith}
@@ -63,7 +63,9 @@ merge-merge-requires : (t : ℕ) → merge-lts.Need-merge-requires (
   join-reads.Asked,
   join-reads.Learnt,
 ) (merge-at t) merge.Post
-merge-merge-requires t c κs = rw (length-take-le (length (c .before .before .before .before .before .before .args .members .now) / 2) (c .before .before .before .before .before .before .args .members .now) (omega arith)) (omega arith)
+merge-merge-requires t c κs =
+    let args = c .before .before .before .before .before .before .args in
+    rw (length-take-le (length (args .members .now) / 2) (args .members .now) (omega arith)) (omega arith)
 
 merge-mul-merge : (t : ℕ) → merge-lts.Need-mul-merge (
   merge-below t,

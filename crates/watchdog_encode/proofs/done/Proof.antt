@@ -1,4 +1,4 @@
--- `done` settles and answers with the state reached. Assumes nothing.
+-- `done` settles and answers with the state reached.
 use mathlib.Core.Path.{ap, _∙_}
 use Rattle.rules.specs.Refusals.{answer-of}
 use Rattle.rules.specs.Encode.{encoded}
@@ -10,7 +10,9 @@ settle-requires : tie.Need-settle-requires
 settle-requires c κs = c .before .before .before .before .before .before .pre .0
 
 state-after-requires : tie.Need-state-after-requires
-state-after-requires c κs = (c .before .before .before .before .before .before .before .before .before .before .before .before .pre .1, c .before .before .before .before .before .before .before .before .before .before .before .before .pre .2)
+state-after-requires c κs =
+    let pre = c .before .before .before .before .before .before .before .before .before .before .before .before .pre in
+    (pre .1, pre .2)
 
 encoded-requires : tie.Need-encoded-requires
 encoded-requires c κs = search needs
@@ -26,7 +28,9 @@ same-length-3 c = search needs
 
 returns : tie.Need-returns
 unfolding encoded answer-of
-returns c = (c .encoded .ensures ∙ ap (encoded 0) (c .before .state-after .ensures), c .before .before .before .before .before .before .before .settle .ensures .0, c .before .before .before .before .before .before .before .settle .ensures .1, c .before .before .before .before .before .before .before .settle .ensures .2)
+returns c =
+    let settle = c .before .before .before .before .before .before .before .settle in
+    (c .encoded .ensures ∙ ap (encoded 0) (c .before .state-after .ensures), settle .ensures .0, settle .ensures .1, settle .ensures .2)
 
 pub done-spec : {M : Type 1} → statement M
 done-spec =

@@ -1,4 +1,4 @@
--- `encode_ub_change` refuses in order, does nothing where nothing is to do, and else carries out. Assumes nothing.
+-- `encode_ub_change` refuses in order, does nothing where nothing is to do, and else carries out.
 use mathlib.Core.Path.{sym, _∙_}
 use borrow.Author.Tests.{not-true, not-false}
 use Rattle.rules.specs.Refusals.{answer-of}
@@ -26,7 +26,9 @@ same-length-2 c = search needs
 
 returns : tie.Need-returns
 unfolding encoded answer-of
-returns c = plain-end (c .before .before .before .before .before .before .before .args .s) (c .before .before .before .before .before .before .before .args .store .now) (c .before .before .before .before .before .before .before .args .clauses .now) (c .before .before .before .before .before .before .before .args .work .now) 12 _ _ (c .encoded .ensures) (refused-12 (c .before .before .before .before .before .before .before .args .s) (c .before .before .before .before .before .before .before .args .store .now) (c .before .before .before .before .before .before .before .args .clauses .now) (c .before .before .before .before .before .before .before .args .work .now) _ _ (sym (c .before .before .well-formed .ensures) ∙ not-true _ (c .before .if1 .taken)))
+returns c =
+    let args = c .before .before .before .before .before .before .before .args in
+    plain-end (args .s) (args .store .now) (args .clauses .now) (args .work .now) 12 _ _ (c .encoded .ensures) (refused-12 (args .s) (args .store .now) (args .clauses .now) (args .work .now) _ _ (sym (c .before .before .well-formed .ensures) ∙ not-true _ (c .before .if1 .taken)))
 
 encoded-requires-2 : tie.Need-encoded-requires-2
 encoded-requires-2 c κs = search needs
@@ -39,7 +41,9 @@ same-length-4 c = search needs
 
 returns-2 : tie.Need-returns-2
 unfolding encoded answer-of
-returns-2 c = plain-end (c .before .before .before .before .before .before .before .before .args .s) (c .before .before .before .before .before .before .before .before .args .store .now) (c .before .before .before .before .before .before .before .before .args .clauses .now) (c .before .before .before .before .before .before .before .before .args .work .now) 6 _ _ (c .encoded2 .ensures) (refused-6 (c .before .before .before .before .before .before .before .before .args .s) (c .before .before .before .before .before .before .before .before .args .store .now) (c .before .before .before .before .before .before .before .before .args .clauses .now) (c .before .before .before .before .before .before .before .before .args .work .now) _ _ (sym (c .before .before .before .well-formed .ensures) ∙ not-false _ (c .before .before .if1 .left)) (c .before .if2 .taken))
+returns-2 c =
+    let args = c .before .before .before .before .before .before .before .before .args in
+    plain-end (args .s) (args .store .now) (args .clauses .now) (args .work .now) 6 _ _ (c .encoded2 .ensures) (refused-6 (args .s) (args .store .now) (args .clauses .now) (args .work .now) _ _ (sym (c .before .before .before .well-formed .ensures) ∙ not-false _ (c .before .before .if1 .left)) (c .before .if2 .taken))
 
 nothing-asked-requires : tie.Need-nothing-asked-requires
 nothing-asked-requires c κs = search needs
@@ -55,7 +59,9 @@ same-length-6 c = search needs
 
 returns-3 : tie.Need-returns-3
 unfolding encoded answer-of
-returns-3 c = plain-end (c .before .before .before .before .before .before .before .before .before .before .args .s) (c .before .before .before .before .before .before .before .before .before .before .args .store .now) (c .before .before .before .before .before .before .before .before .before .before .args .clauses .now) (c .before .before .before .before .before .before .before .before .before .before .args .work .now) 0 _ _ (c .encoded3 .ensures) (unasked (c .before .before .before .before .before .before .before .before .before .before .args .s) (c .before .before .before .before .before .before .before .before .before .before .args .store .now) (c .before .before .before .before .before .before .before .before .before .before .args .clauses .now) (c .before .before .before .before .before .before .before .before .before .before .args .work .now) _ _ (sym (c .before .before .before .before .before .well-formed .ensures) ∙ not-false _ (c .before .before .before .before .if1 .left)) (c .before .before .before .if2 .left) (sym (c .before .before .nothing-asked .ensures _) ∙ c .before .if3 .taken))
+returns-3 c =
+    let args = c .before .before .before .before .before .before .before .before .before .before .args in
+    plain-end (args .s) (args .store .now) (args .clauses .now) (args .work .now) 0 _ _ (c .encoded3 .ensures) (unasked (args .s) (args .store .now) (args .clauses .now) (args .work .now) _ _ (sym (c .before .before .before .before .before .well-formed .ensures) ∙ not-false _ (c .before .before .before .before .if1 .left)) (c .before .before .before .if2 .left) (sym (c .before .before .nothing-asked .ensures _) ∙ c .before .if3 .taken))
 
 divisor-above-requires : tie.Need-divisor-above-requires
 divisor-above-requires c κs = search needs
@@ -71,10 +77,16 @@ same-length-8 c = search needs
 
 returns-4 : tie.Need-returns-4
 unfolding encoded answer-of
-returns-4 c = plain-end (c .before .before .before .before .before .before .before .before .before .before .before .before .before .args .s) (c .before .before .before .before .before .before .before .before .before .before .before .before .before .args .store .now) (c .before .before .before .before .before .before .before .before .before .before .before .before .before .args .clauses .now) (c .before .before .before .before .before .before .before .before .before .before .before .before .before .args .work .now) 10 _ _ (c .encoded4 .ensures) (refused-10 (c .before .before .before .before .before .before .before .before .before .before .before .before .before .args .s) (c .before .before .before .before .before .before .before .before .before .before .before .before .before .args .store .now) (c .before .before .before .before .before .before .before .before .before .before .before .before .before .args .clauses .now) (c .before .before .before .before .before .before .before .before .before .before .before .before .before .args .work .now) _ _ (sym (c .before .before .before .before .before .before .before .before .well-formed .ensures) ∙ not-false _ (c .before .before .before .before .before .before .before .if1 .left)) (c .before .before .before .before .before .before .if2 .left) (sym (c .before .before .before .before .before .nothing-asked .ensures _) ∙ c .before .before .before .before .if3 .left) (sym (c .before .before .divisor-above .ensures _ (well-formed-facts (c .before .before .before .before .before .before .before .before .before .before .before .before .before .args .s) (c .before .before .before .before .before .before .before .before .before .before .before .before .before .args .store .now) (c .before .before .before .before .before .before .before .before .before .before .before .before .before .args .clauses .now) (sym (c .before .before .before .before .before .before .before .before .well-formed .ensures) ∙ not-false _ (c .before .before .before .before .before .before .before .if1 .left)))) ∙ c .before .if4 .taken))
+returns-4 c =
+    let if1 = c .before .before .before .before .before .before .before .if1 in
+    let well-formed = c .before .before .before .before .before .before .before .before .well-formed in
+    let args = c .before .before .before .before .before .before .before .before .before .before .before .before .before .args in
+    plain-end (args .s) (args .store .now) (args .clauses .now) (args .work .now) 10 _ _ (c .encoded4 .ensures) (refused-10 (args .s) (args .store .now) (args .clauses .now) (args .work .now) _ _ (sym (well-formed .ensures) ∙ not-false _ (if1 .left)) (c .before .before .before .before .before .before .if2 .left) (sym (c .before .before .before .before .before .nothing-asked .ensures _) ∙ c .before .before .before .before .if3 .left) (sym (c .before .before .divisor-above .ensures _ (well-formed-facts (args .s) (args .store .now) (args .clauses .now) (sym (well-formed .ensures) ∙ not-false _ (if1 .left)))) ∙ c .before .if4 .taken))
 
 idle-requires : tie.Need-idle-requires
-idle-requires c κs = ((well-formed-facts (c .before .before .before .before .before .before .before .before .before .before .before .before .before .args .s) (c .before .before .before .before .before .before .before .before .before .before .before .before .before .args .store .now) (c .before .before .before .before .before .before .before .before .before .before .before .before .before .args .clauses .now) (sym (c .before .before .before .before .before .before .before .before .well-formed .ensures) ∙ not-false _ (c .before .before .before .before .before .before .before .if1 .left))) .laid .tares-few, asked-range (buildOf (c .before .before .before .before .before .before .before .before .before .before .before .before .before .args .s) (c .before .before .before .before .before .before .before .before .before .before .before .before .before .args .store .now)) _ _ (sym (c .before .before .before .before .before .nothing-asked .ensures _) ∙ c .before .before .before .before .if3 .left))
+idle-requires c κs =
+    let args = c .before .before .before .before .before .before .before .before .before .before .before .before .before .args in
+    ((well-formed-facts (args .s) (args .store .now) (args .clauses .now) (sym (c .before .before .before .before .before .before .before .before .well-formed .ensures) ∙ not-false _ (c .before .before .before .before .before .before .before .if1 .left))) .laid .tares-few, asked-range (buildOf (args .s) (args .store .now)) _ _ (sym (c .before .before .before .before .before .nothing-asked .ensures _) ∙ c .before .before .before .before .if3 .left))
 
 encoded-requires-5 : tie.Need-encoded-requires-5
 encoded-requires-5 c κs = search needs
@@ -87,10 +99,28 @@ same-length-10 c = search needs
 
 returns-5 : tie.Need-returns-5
 unfolding encoded answer-of
-returns-5 c = plain-end (c .before .before .before .before .before .before .before .before .before .before .before .before .before .before .before .before .args .s) (c .before .before .before .before .before .before .before .before .before .before .before .before .before .before .before .before .args .store .now) (c .before .before .before .before .before .before .before .before .before .before .before .before .before .before .before .before .args .clauses .now) (c .before .before .before .before .before .before .before .before .before .before .before .before .before .before .before .before .args .work .now) 0 _ _ (c .encoded5 .ensures) (idled (c .before .before .before .before .before .before .before .before .before .before .before .before .before .before .before .before .args .s) (c .before .before .before .before .before .before .before .before .before .before .before .before .before .before .before .before .args .store .now) (c .before .before .before .before .before .before .before .before .before .before .before .before .before .before .before .before .args .clauses .now) (c .before .before .before .before .before .before .before .before .before .before .before .before .before .before .before .before .args .work .now) _ _ (sym (c .before .before .before .before .before .before .before .before .before .before .before .well-formed .ensures) ∙ not-false _ (c .before .before .before .before .before .before .before .before .before .before .if1 .left)) (c .before .before .before .before .before .before .before .before .before .if2 .left) (sym (c .before .before .before .before .before .before .before .before .nothing-asked .ensures _) ∙ c .before .before .before .before .before .before .before .if3 .left) (sym (c .before .before .before .before .before .divisor-above .ensures _ (well-formed-facts (c .before .before .before .before .before .before .before .before .before .before .before .before .before .before .before .before .args .s) (c .before .before .before .before .before .before .before .before .before .before .before .before .before .before .before .before .args .store .now) (c .before .before .before .before .before .before .before .before .before .before .before .before .before .before .before .before .args .clauses .now) (sym (c .before .before .before .before .before .before .before .before .before .before .before .well-formed .ensures) ∙ not-false _ (c .before .before .before .before .before .before .before .before .before .before .if1 .left)))) ∙ c .before .before .before .before .if4 .left) (sym (c .before .before .idle .ensures _ (well-formed-facts (c .before .before .before .before .before .before .before .before .before .before .before .before .before .before .before .before .args .s) (c .before .before .before .before .before .before .before .before .before .before .before .before .before .before .before .before .args .store .now) (c .before .before .before .before .before .before .before .before .before .before .before .before .before .before .before .before .args .clauses .now) (sym (c .before .before .before .before .before .before .before .before .before .before .before .well-formed .ensures) ∙ not-false _ (c .before .before .before .before .before .before .before .before .before .before .if1 .left))) (sym (c .before .before .before .before .before .before .before .before .nothing-asked .ensures _) ∙ c .before .before .before .before .before .before .before .if3 .left) (sym (c .before .before .before .before .before .divisor-above .ensures _ (well-formed-facts (c .before .before .before .before .before .before .before .before .before .before .before .before .before .before .before .before .args .s) (c .before .before .before .before .before .before .before .before .before .before .before .before .before .before .before .before .args .store .now) (c .before .before .before .before .before .before .before .before .before .before .before .before .before .before .before .before .args .clauses .now) (sym (c .before .before .before .before .before .before .before .before .before .before .before .well-formed .ensures) ∙ not-false _ (c .before .before .before .before .before .before .before .before .before .before .if1 .left)))) ∙ c .before .before .before .before .if4 .left)) ∙ c .before .if5 .taken) (idle-fits (c .before .before .before .before .before .before .before .before .before .before .before .before .before .before .before .before .args .s) (c .before .before .before .before .before .before .before .before .before .before .before .before .before .before .before .before .args .store .now) (c .before .before .before .before .before .before .before .before .before .before .before .before .before .before .before .before .args .clauses .now) (well-formed-facts (c .before .before .before .before .before .before .before .before .before .before .before .before .before .before .before .before .args .s) (c .before .before .before .before .before .before .before .before .before .before .before .before .before .before .before .before .args .store .now) (c .before .before .before .before .before .before .before .before .before .before .before .before .before .before .before .before .args .clauses .now) (sym (c .before .before .before .before .before .before .before .before .before .before .before .well-formed .ensures) ∙ not-false _ (c .before .before .before .before .before .before .before .before .before .before .if1 .left))) (sym (c .before .before .before .before .before .divisor-above .ensures _ (well-formed-facts (c .before .before .before .before .before .before .before .before .before .before .before .before .before .before .before .before .args .s) (c .before .before .before .before .before .before .before .before .before .before .before .before .before .before .before .before .args .store .now) (c .before .before .before .before .before .before .before .before .before .before .before .before .before .before .before .before .args .clauses .now) (sym (c .before .before .before .before .before .before .before .before .before .before .before .well-formed .ensures) ∙ not-false _ (c .before .before .before .before .before .before .before .before .before .before .if1 .left)))) ∙ c .before .before .before .before .if4 .left) _ _ (sym (c .before .before .before .before .before .before .before .before .nothing-asked .ensures _) ∙ c .before .before .before .before .before .before .before .if3 .left) (sym (c .before .before .idle .ensures _ (well-formed-facts (c .before .before .before .before .before .before .before .before .before .before .before .before .before .before .before .before .args .s) (c .before .before .before .before .before .before .before .before .before .before .before .before .before .before .before .before .args .store .now) (c .before .before .before .before .before .before .before .before .before .before .before .before .before .before .before .before .args .clauses .now) (sym (c .before .before .before .before .before .before .before .before .before .before .before .well-formed .ensures) ∙ not-false _ (c .before .before .before .before .before .before .before .before .before .before .if1 .left))) (sym (c .before .before .before .before .before .before .before .before .nothing-asked .ensures _) ∙ c .before .before .before .before .before .before .before .if3 .left) (sym (c .before .before .before .before .before .divisor-above .ensures _ (well-formed-facts (c .before .before .before .before .before .before .before .before .before .before .before .before .before .before .before .before .args .s) (c .before .before .before .before .before .before .before .before .before .before .before .before .before .before .before .before .args .store .now) (c .before .before .before .before .before .before .before .before .before .before .before .before .before .before .before .before .args .clauses .now) (sym (c .before .before .before .before .before .before .before .before .before .before .before .well-formed .ensures) ∙ not-false _ (c .before .before .before .before .before .before .before .before .before .before .if1 .left)))) ∙ c .before .before .before .before .if4 .left)) ∙ c .before .if5 .taken)))
+returns-5 c =
+    let if5 = c .before .if5 in
+    let idle = c .before .before .idle in
+    let if4 = c .before .before .before .before .if4 in
+    let divisor-above = c .before .before .before .before .before .divisor-above in
+    let if3 = c .before .before .before .before .before .before .before .if3 in
+    let nothing-asked = c .before .before .before .before .before .before .before .before .nothing-asked in
+    let if1 = c .before .before .before .before .before .before .before .before .before .before .if1 in
+    let well-formed = c .before .before .before .before .before .before .before .before .before .before .before .well-formed in
+    let args = c .before .before .before .before .before .before .before .before .before .before .before .before .before .before .before .before .args in
+    plain-end (args .s) (args .store .now) (args .clauses .now) (args .work .now) 0 _ _ (c .encoded5 .ensures) (idled (args .s) (args .store .now) (args .clauses .now) (args .work .now) _ _ (sym (well-formed .ensures) ∙ not-false _ (if1 .left)) (c .before .before .before .before .before .before .before .before .before .if2 .left) (sym (nothing-asked .ensures _) ∙ if3 .left) (sym (divisor-above .ensures _ (well-formed-facts (args .s) (args .store .now) (args .clauses .now) (sym (well-formed .ensures) ∙ not-false _ (if1 .left)))) ∙ if4 .left) (sym (idle .ensures _ (well-formed-facts (args .s) (args .store .now) (args .clauses .now) (sym (well-formed .ensures) ∙ not-false _ (if1 .left))) (sym (nothing-asked .ensures _) ∙ if3 .left) (sym (divisor-above .ensures _ (well-formed-facts (args .s) (args .store .now) (args .clauses .now) (sym (well-formed .ensures) ∙ not-false _ (if1 .left)))) ∙ if4 .left)) ∙ if5 .taken) (idle-fits (args .s) (args .store .now) (args .clauses .now) (well-formed-facts (args .s) (args .store .now) (args .clauses .now) (sym (well-formed .ensures) ∙ not-false _ (if1 .left))) (sym (divisor-above .ensures _ (well-formed-facts (args .s) (args .store .now) (args .clauses .now) (sym (well-formed .ensures) ∙ not-false _ (if1 .left)))) ∙ if4 .left) _ _ (sym (nothing-asked .ensures _) ∙ if3 .left) (sym (idle .ensures _ (well-formed-facts (args .s) (args .store .now) (args .clauses .now) (sym (well-formed .ensures) ∙ not-false _ (if1 .left))) (sym (nothing-asked .ensures _) ∙ if3 .left) (sym (divisor-above .ensures _ (well-formed-facts (args .s) (args .store .now) (args .clauses .now) (sym (well-formed .ensures) ∙ not-false _ (if1 .left)))) ∙ if4 .left)) ∙ if5 .taken)))
 
 carried-out-requires : tie.Need-carried-out-requires
-carried-out-requires c κs = record { formed = (sym (c .before .before .before .before .before .before .before .before .before .before .before .before .before .well-formed .ensures) ∙ not-false _ (c .before .before .before .before .before .before .before .before .before .before .before .before .if1 .left)); long = c .before .before .before .before .before .before .before .before .before .before .before .if2 .left; asked = sym (c .before .before .before .before .before .before .before .before .before .before .nothing-asked .ensures _) ∙ c .before .before .before .before .before .before .before .before .before .if3 .left; reached = sym (c .before .before .before .before .before .before .before .divisor-above .ensures _ (well-formed-facts (c .before .before .before .before .before .before .before .before .before .before .before .before .before .before .before .before .before .before .args .s) (c .before .before .before .before .before .before .before .before .before .before .before .before .before .before .before .before .before .before .args .store .now) (c .before .before .before .before .before .before .before .before .before .before .before .before .before .before .before .before .before .before .args .clauses .now) (sym (c .before .before .before .before .before .before .before .before .before .before .before .before .before .well-formed .ensures) ∙ not-false _ (c .before .before .before .before .before .before .before .before .before .before .before .before .if1 .left)))) ∙ c .before .before .before .before .before .before .if4 .left; busy = sym (c .before .before .before .before .idle .ensures _ (well-formed-facts (c .before .before .before .before .before .before .before .before .before .before .before .before .before .before .before .before .before .before .args .s) (c .before .before .before .before .before .before .before .before .before .before .before .before .before .before .before .before .before .before .args .store .now) (c .before .before .before .before .before .before .before .before .before .before .before .before .before .before .before .before .before .before .args .clauses .now) (sym (c .before .before .before .before .before .before .before .before .before .before .before .before .before .well-formed .ensures) ∙ not-false _ (c .before .before .before .before .before .before .before .before .before .before .before .before .if1 .left))) (sym (c .before .before .before .before .before .before .before .before .before .before .nothing-asked .ensures _) ∙ c .before .before .before .before .before .before .before .before .before .if3 .left) (sym (c .before .before .before .before .before .before .before .divisor-above .ensures _ (well-formed-facts (c .before .before .before .before .before .before .before .before .before .before .before .before .before .before .before .before .before .before .args .s) (c .before .before .before .before .before .before .before .before .before .before .before .before .before .before .before .before .before .before .args .store .now) (c .before .before .before .before .before .before .before .before .before .before .before .before .before .before .before .before .before .before .args .clauses .now) (sym (c .before .before .before .before .before .before .before .before .before .before .before .before .before .well-formed .ensures) ∙ not-false _ (c .before .before .before .before .before .before .before .before .before .before .before .before .if1 .left)))) ∙ c .before .before .before .before .before .before .if4 .left)) ∙ c .before .before .before .if5 .left }
+carried-out-requires c κs =
+    let if4 = c .before .before .before .before .before .before .if4 in
+    let divisor-above = c .before .before .before .before .before .before .before .divisor-above in
+    let if3 = c .before .before .before .before .before .before .before .before .before .if3 in
+    let nothing-asked = c .before .before .before .before .before .before .before .before .before .before .nothing-asked in
+    let if1 = c .before .before .before .before .before .before .before .before .before .before .before .before .if1 in
+    let well-formed = c .before .before .before .before .before .before .before .before .before .before .before .before .before .well-formed in
+    let args = c .before .before .before .before .before .before .before .before .before .before .before .before .before .before .before .before .before .before .args in
+    record { formed = (sym (well-formed .ensures) ∙ not-false _ (if1 .left)); long = c .before .before .before .before .before .before .before .before .before .before .before .if2 .left; asked = sym (nothing-asked .ensures _) ∙ if3 .left; reached = sym (divisor-above .ensures _ (well-formed-facts (args .s) (args .store .now) (args .clauses .now) (sym (well-formed .ensures) ∙ not-false _ (if1 .left)))) ∙ if4 .left; busy = sym (c .before .before .before .before .idle .ensures _ (well-formed-facts (args .s) (args .store .now) (args .clauses .now) (sym (well-formed .ensures) ∙ not-false _ (if1 .left))) (sym (nothing-asked .ensures _) ∙ if3 .left) (sym (divisor-above .ensures _ (well-formed-facts (args .s) (args .store .now) (args .clauses .now) (sym (well-formed .ensures) ∙ not-false _ (if1 .left)))) ∙ if4 .left)) ∙ c .before .before .before .if5 .left }
 
 same-length-11 : tie.Need-same-length-11
 same-length-11 c = search needs

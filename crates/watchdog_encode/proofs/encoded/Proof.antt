@@ -1,4 +1,4 @@
--- `encoded` has the totals of its state. Assumes nothing.
+-- `encoded` has the totals of its state.
 use mathlib.Core.Path.{refl}
 use Rattle.watchdog_encode.proofs.encoded.Statement.{statement}
 use Rattle.watchdog_encode.proofs.encoded.Tie as tie

@@ -1,4 +1,4 @@
--- `idle` looks for the outputs of the range where nothing is due. Assumes nothing.
+-- `idle` looks for the outputs of the range where nothing is due.
 use mathlib.Core.Path.{sym, _∙_}
 use borrow.Author.Tests.{leb-true, leb-false}
 use Rattle.watchdog_encode.proofs.Tests.{busy-anew, idle-by}
@@ -10,7 +10,9 @@ reached-requires : tie.Need-reached-requires
 reached-requires c κs = search needs
 
 returns : tie.Need-returns
-returns c = λ b w a d. busy-anew (c .before .before .before .args .s) (c .before .before .before .args .store .now) b w d _ _ a (leb-true _ _ (sym (c .before .reached .ensures b w) ∙ c .if1 .taken))
+returns c =
+    let args = c .before .before .before .args in
+    λ b w a d. busy-anew (args .s) (args .store .now) b w d _ _ a (leb-true _ _ (sym (c .before .reached .ensures b w) ∙ c .if1 .taken))
 
 array-read-root : tie.Need-array-read-root
 array-read-root c = search needs
@@ -25,7 +27,9 @@ all-defined-requires : tie.Need-all-defined-requires
 all-defined-requires c κs = search needs
 
 returns-2 : tie.Need-returns-2
-returns-2 c = λ b w a d. idle-by (c .before .before .before .before .before .before .before .args .s) (c .before .before .before .before .before .before .before .args .store .now) b w d _ _ a (leb-false _ _ (sym (c .before .before .before .before .before .reached .ensures b w) ∙ c .before .before .before .before .if1 .left)) _ _ _ _ (c .before .before .maximum .ensures) (c .before .values .ensures .0) (c .all-defined .ensures)
+returns-2 c =
+    let args = c .before .before .before .before .before .before .before .args in
+    λ b w a d. idle-by (args .s) (args .store .now) b w d _ _ a (leb-false _ _ (sym (c .before .before .before .before .before .reached .ensures b w) ∙ c .before .before .before .before .if1 .left)) _ _ _ _ (c .before .before .maximum .ensures) (c .before .values .ensures .0) (c .all-defined .ensures)
 
 pub idle-spec : {M : Type 1} → statement M
 idle-spec =

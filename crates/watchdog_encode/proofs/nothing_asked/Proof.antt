@@ -1,4 +1,4 @@
--- `nothing_asked` tests the range and the inputs. Assumes nothing.
+-- `nothing_asked` tests the range and the inputs.
 use mathlib.Core.Path.{refl}
 use Rattle.watchdog_encode.proofs.Tests.{asked-yes, asked-by}
 use Rattle.watchdog_encode.proofs.nothing_asked.Statement.{statement}

@@ -1,4 +1,4 @@
--- `reached` compares the set divisor with the largest weight. Assumes nothing.
+-- `reached` compares the set divisor with the largest weight.
 use mathlib.Core.Path.{ap}
 use lib.Dec.{leb}
 use Rattle.encode_reach.proofs.Ways.{largest-by}
@@ -13,7 +13,9 @@ cast-result : tie.Need-cast-result
 cast-result c = search needs
 
 returns : tie.Need-returns
-returns c = λ b w. ap (leb (c .before .before .before .args .s .set)) (largest-by (c .before .before .before .args .s) (c .before .before .before .args .store .now) b w _ (c .before .largest .ensures))
+returns c =
+    let args = c .before .before .before .args in
+    λ b w. ap (leb (args .s .set)) (largest-by (args .s) (args .store .now) b w _ (c .before .largest .ensures))
 
 pub reached-spec : {M : Type 1} → statement M
 reached-spec = tie.close (tie.spec largest-requires cast-result returns)

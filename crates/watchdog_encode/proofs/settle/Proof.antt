@@ -1,4 +1,4 @@
--- `settle` zeroes from the marks on. Assumes nothing.
+-- `settle` zeroes from the marks on.
 use Rattle.watchdog_encode.proofs.Finals.{all-zero}
 use borrow.Author.Needs.{needs}
 use Rattle.watchdog_encode.proofs.settle.Statement.{statement}

@@ -1,4 +1,4 @@
--- `state_after` is the definition. Assumes nothing.
+-- `state_after` is the definition.
 use mathlib.Core.Path.{refl}
 use Rattle.watchdog_encode.specs.Busy.{stated}
 use borrow.Author.Needs.{needs}

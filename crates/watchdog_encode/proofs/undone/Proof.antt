@@ -1,4 +1,4 @@
--- `undone` puts back, settles and refuses. Assumes nothing.
+-- `undone` puts back, settles and refuses.
 use mathlib.Core.Path.{ap₂, _∙_}
 use native.Mathlib.Omega.{arith}
 use Rattle.rules.specs.Lists.{padded}
@@ -28,7 +28,10 @@ same-length-3 c = search needs
 
 returns : tie.Need-returns
 unfolding encoded answer-of
-returns c = (c .encoded .ensures, λ o a t. c .before .before .before .before .before .before .settle .ensures .0 ∙ ap₂ (padded 0) (c .before .before .before .before .before .before .before .before .before .before .before .before .put-back .ensures .1 ∙ t .same-length) (c .before .before .before .before .before .before .before .before .before .before .before .before .put-back .ensures .0 o a t), c .before .before .before .before .before .before .settle .ensures .1, c .before .before .before .before .before .before .settle .ensures .2)
+returns c =
+    let settle = c .before .before .before .before .before .before .settle in
+    let put-back = c .before .before .before .before .before .before .before .before .before .before .before .before .put-back in
+    (c .encoded .ensures, λ o a t. settle .ensures .0 ∙ ap₂ (padded 0) (put-back .ensures .1 ∙ t .same-length) (put-back .ensures .0 o a t), settle .ensures .1, settle .ensures .2)
 
 pub undone-spec : {M : Type 1} → statement M
 undone-spec =

@@ -1,4 +1,4 @@
--- `coarse_ub` reads a state that is well formed. Assumes nothing.
+-- `coarse_ub` reads a state that is well formed.
 use mathlib.Core.Path.{sym, _∙_}
 use borrow.Author.Needs.{needs}
 use Rattle.watchdog_precision.proofs.Formed.{formed-few, formed-tares}
@@ -13,7 +13,10 @@ coarse-requires : tie.Need-coarse-requires
 coarse-requires c κs = formed-few _ _ _ (sym (c .before .well-formed .ensures) ∙ c .if1 .taken)
 
 returns : tie.Need-returns
-returns c = coarse-answer _ _ _ _ (c .before .before .well-formed .ensures) _ _ (c .before .if1 .taken) (formed-tares _ _ _ (sym (c .before .before .well-formed .ensures) ∙ c .before .if1 .taken)) (c .coarse .ensures)
+returns c =
+    let if1 = c .before .if1 in
+    let well-formed = c .before .before .well-formed in
+    coarse-answer _ _ _ _ (well-formed .ensures) _ _ (if1 .taken) (formed-tares _ _ _ (sym (well-formed .ensures) ∙ if1 .taken)) (c .coarse .ensures)
 
 returns-2 : tie.Need-returns-2
 returns-2 c = coarse-refused _ _ _ _ (c .before .well-formed .ensures) _ (c .if1 .left)

@@ -1,4 +1,4 @@
--- `next_precision` reads a store that is well formed. Assumes nothing.
+-- `next_precision` reads a store that is well formed.
 use mathlib.Core.Path.{sym, _∙_}
 use borrow.Author.Needs.{needs}
 use Rattle.watchdog_precision.proofs.Formed.{formed-stores}
@@ -13,7 +13,10 @@ next-requires : tie.Need-next-requires
 next-requires c κs = search needs
 
 returns : tie.Need-returns
-returns c = next-answer _ _ _ _ (c .before .before .well-formed .ensures) _ (c .before .if1 .taken) (c .next .ensures _ (formed-stores _ _ _ (sym (c .before .before .well-formed .ensures) ∙ c .before .if1 .taken)))
+returns c =
+    let if1 = c .before .if1 in
+    let well-formed = c .before .before .well-formed in
+    next-answer _ _ _ _ (well-formed .ensures) _ (if1 .taken) (c .next .ensures _ (formed-stores _ _ _ (sym (well-formed .ensures) ∙ if1 .taken)))
 
 returns-2 : tie.Need-returns-2
 returns-2 c = next-refused _ _ _ _ (c .before .well-formed .ensures) (c .if1 .left)

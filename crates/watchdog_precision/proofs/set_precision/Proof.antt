@@ -1,4 +1,4 @@
--- `set_precision` passes the test on. Assumes nothing.
+-- `set_precision` passes the test on.
 use borrow.Author.Needs.{needs}
 use Rattle.watchdog_precision.proofs.Answers.{set-answer}
 use Rattle.watchdog_precision.proofs.set_precision.Statement.{statement}

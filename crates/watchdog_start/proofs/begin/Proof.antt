@@ -1,4 +1,4 @@
--- `begin` writes the new build's records over what was there and zeroes the rest. Assumes nothing.
+-- `begin` writes the new build's records over what was there and zeroes the rest.
 use mathlib.Core.Path.{_∙_}
 use native.Mathlib.Omega.{arith}
 use borrow.Author.Needs.{needs}
@@ -10,13 +10,20 @@ blank-requires : tie.Need-blank-requires
 blank-requires c κs = search needs
 
 leaves-requires : tie.Need-leaves-requires
-leaves-requires c κs = all-lawful (c .before .before .before .before .args .lits .now) (c .before .before .before .before .args .weights .now) (c .before .before .before .before .args .first) (c .before .before .before .before .args .store .now) (c .before .before .before .before .pre)
+leaves-requires c κs =
+    let args = c .before .before .before .before .args in
+    all-lawful (args .lits .now) (args .weights .now) (args .first) (args .store .now) (c .before .before .before .before .pre)
 
 waits-requires : tie.Need-waits-requires
-waits-requires c κs = (all-small (c .before .before .before .before .before .before .before .before .args .lits .now) (c .before .before .before .before .before .before .before .before .args .weights .now) (c .before .before .before .before .before .before .before .before .args .first) (c .before .before .before .before .before .before .before .before .args .store .now) (c .before .before .before .before .before .before .before .before .pre), few-weights (c .before .before .before .before .before .before .before .before .args .lits .now) (c .before .before .before .before .before .before .before .before .args .weights .now) (c .before .before .before .before .before .before .before .before .args .first) (c .before .before .before .before .before .before .before .before .args .store .now) (c .before .before .before .before .before .before .before .before .pre))
+waits-requires c κs =
+    let args = c .before .before .before .before .before .before .before .before .args in
+    let pre = c .before .before .before .before .before .before .before .before .pre in
+    (all-small (args .lits .now) (args .weights .now) (args .first) (args .store .now) pre, few-weights (args .lits .now) (args .weights .now) (args .first) (args .store .now) pre)
 
 mul-zero-words : tie.Need-mul-zero-words
-mul-zero-words c = omega (arith, few-lits (c .before .before .before .before .before .before .before .before .before .before .before .before .args .lits .now) (c .before .before .before .before .before .before .before .before .before .before .before .before .args .weights .now) (c .before .before .before .before .before .before .before .before .before .before .before .before .args .first) (c .before .before .before .before .before .before .before .before .before .before .before .before .args .store .now) (c .before .before .before .before .before .before .before .before .before .before .before .before .pre))
+mul-zero-words c =
+    let args = c .before .before .before .before .before .before .before .before .before .before .before .before .args in
+    omega (arith, few-lits (args .lits .now) (args .weights .now) (args .first) (args .store .now) (c .before .before .before .before .before .before .before .before .before .before .before .before .pre))
 
 zero-words-requires : tie.Need-zero-words-requires
 zero-words-requires c κs = search needs
@@ -25,10 +32,15 @@ zero-signed-requires : tie.Need-zero-signed-requires
 zero-signed-requires c κs = search needs
 
 cast-state : tie.Need-cast-state
-cast-state c = omega (arith, few-lits (c .before .before .before .before .before .before .before .before .before .before .before .before .before .before .before .before .before .before .args .lits .now) (c .before .before .before .before .before .before .before .before .before .before .before .before .before .before .before .before .before .before .args .weights .now) (c .before .before .before .before .before .before .before .before .before .before .before .before .before .before .before .before .before .before .args .first) (c .before .before .before .before .before .before .before .before .before .before .before .before .before .before .before .before .before .before .args .store .now) (c .before .before .before .before .before .before .before .before .before .before .before .before .before .before .before .before .before .before .pre))
+cast-state c =
+    let args = c .before .before .before .before .before .before .before .before .before .before .before .before .before .before .before .before .before .before .args in
+    omega (arith, few-lits (args .lits .now) (args .weights .now) (args .first) (args .store .now) (c .before .before .before .before .before .before .before .before .before .before .before .before .before .before .before .before .before .before .pre))
 
 sum-requires : tie.Need-sum-requires
-sum-requires c κs = (all-small (c .before .before .before .before .before .before .before .before .before .before .before .before .before .before .before .before .before .before .args .lits .now) (c .before .before .before .before .before .before .before .before .before .before .before .before .before .before .before .before .before .before .args .weights .now) (c .before .before .before .before .before .before .before .before .before .before .before .before .before .before .before .before .before .before .args .first) (c .before .before .before .before .before .before .before .before .before .before .before .before .before .before .before .before .before .before .args .store .now) (c .before .before .before .before .before .before .before .before .before .before .before .before .before .before .before .before .before .before .pre), few-weights (c .before .before .before .before .before .before .before .before .before .before .before .before .before .before .before .before .before .before .args .lits .now) (c .before .before .before .before .before .before .before .before .before .before .before .before .before .before .before .before .before .before .args .weights .now) (c .before .before .before .before .before .before .before .before .before .before .before .before .before .before .before .before .before .before .args .first) (c .before .before .before .before .before .before .before .before .before .before .before .before .before .before .before .before .before .before .args .store .now) (c .before .before .before .before .before .before .before .before .before .before .before .before .before .before .before .before .before .before .pre))
+sum-requires c κs =
+    let args = c .before .before .before .before .before .before .before .before .before .before .before .before .before .before .before .before .before .before .args in
+    let pre = c .before .before .before .before .before .before .before .before .before .before .before .before .before .before .before .before .before .before .pre in
+    (all-small (args .lits .now) (args .weights .now) (args .first) (args .store .now) pre, few-weights (args .lits .now) (args .weights .now) (args .first) (args .store .now) pre)
 
 mul-state : tie.Need-mul-state
 mul-state c = search needs
@@ -43,13 +55,15 @@ same-length-2 : tie.Need-same-length-2
 same-length-2 c = search needs
 
 returns : tie.Need-returns
-returns c = (
-  c .state .ensures ∙ begun-state (c .before .before .before .before .before .before .before .before .before .before .before .before .before .before .before .before .before .before .before .before .args .lits .now) (c .before .before .before .before .before .before .before .before .before .before .before .before .before .before .before .before .before .before .before .before .args .weights .now) (c .before .before .before .before .before .before .before .before .before .before .before .before .before .before .before .before .before .before .before .before .args .first) (c .before .before .before .before .before .before .before .before .before .before .before .before .before .before .before .before .before .before .before .before .args .store .now) (c .before .before .before .before .before .before .before .before .before .before .before .before .before .before .before .before .before .before .before .before .pre) _ (c .before .sum .ensures),
-  (
-    c .before .before .before .before .before .before .before .zero-words .ensures ∙ begun (c .before .before .before .before .before .before .before .before .before .before .before .before .before .before .before .before .before .before .before .before .args .lits .now) (c .before .before .before .before .before .before .before .before .before .before .before .before .before .before .before .before .before .before .before .before .args .weights .now) (c .before .before .before .before .before .before .before .before .before .before .before .before .before .before .before .before .before .before .before .before .args .first) (c .before .before .before .before .before .before .before .before .before .before .before .before .before .before .before .before .before .before .before .before .args .store .now) (c .before .before .before .before .before .before .before .before .before .before .before .before .before .before .before .before .before .before .before .before .pre) _ _ _ _ _ (c .before .before .before .before .before .before .before .before .before .before .before .before .before .before .before .before .blank .ensures) (c .before .before .before .before .before .before .before .before .before .before .before .before .before .before .before .leaves .ensures) (c .before .before .before .before .before .before .before .before .before .before .before .waits .ensures),
-    c .before .before .before .zero-signed .ensures,
-  ),
-)
+returns c =
+    let args = c .before .before .before .before .before .before .before .before .before .before .before .before .before .before .before .before .before .before .before .before .args in
+    let pre = c .before .before .before .before .before .before .before .before .before .before .before .before .before .before .before .before .before .before .before .before .pre in (
+      c .state .ensures ∙ begun-state (args .lits .now) (args .weights .now) (args .first) (args .store .now) pre _ (c .before .sum .ensures),
+      (
+        c .before .before .before .before .before .before .before .zero-words .ensures ∙ begun (args .lits .now) (args .weights .now) (args .first) (args .store .now) pre _ _ _ _ _ (c .before .before .before .before .before .before .before .before .before .before .before .before .before .before .before .before .blank .ensures) (c .before .before .before .before .before .before .before .before .before .before .before .before .before .before .before .leaves .ensures) (c .before .before .before .before .before .before .before .before .before .before .before .waits .ensures),
+        c .before .before .before .zero-signed .ensures,
+      ),
+    )
 
 pub begin-spec : {M : Type 1} → statement M
 begin-spec =

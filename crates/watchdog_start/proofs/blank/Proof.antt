@@ -1,4 +1,4 @@
--- `blank` makes its record. Assumes nothing.
+-- `blank` makes its record.
 use mathlib.Core.Path.{refl}
 use Rattle.watchdog_start.specs.Writing.{blank-marks}
 use Rattle.watchdog_start.proofs.blank.Statement.{statement}

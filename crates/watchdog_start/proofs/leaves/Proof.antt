@@ -1,4 +1,4 @@
--- `leaves` has written a leaf for each literal before i. Assumes nothing.
+-- `leaves` has written a leaf for each literal before i.
 use mathlib.Core.Path.{_≡_, refl, _∙_}
 use mathlib.Core.List.{List}
 use Prim.Native.Nat.{_-_, _≤_}
@@ -34,12 +34,15 @@ loop-less : tie.Need-loop-less Inv-loop μ-loop
 loop-less c = omega arith
 
 loop-again : tie.Need-loop-again Inv-loop μ-loop
-loop-again c = (
-  λ b. leaf-next _ _ _ _ _ _ (c .before .before .before .before .before .before .loop-test .taken) (c .before .before .before .before .before .before .before .loop .inv .0 b)
-      (c .before .before .before .leaf .ensures b _ (literal-there _ _ _ (c .before .before .before .before .before .before .before .before .before .pre) (c .before .before .before .before .before .before .loop-test .taken) (c .before .before .before .before .word-at .ensures))),
-  omega arith,
-  c .before .before .before .leaf .kept .0 ∙ c .before .before .before .before .before .before .before .loop .inv .2,
-)
+loop-again c =
+    let leaf = c .before .before .before .leaf in
+    let loop-test = c .before .before .before .before .before .before .loop-test in
+    let loop = c .before .before .before .before .before .before .before .loop in (
+      λ b. leaf-next _ _ _ _ _ _ (loop-test .taken) (loop .inv .0 b)
+          (leaf .ensures b _ (literal-there _ _ _ (c .before .before .before .before .before .before .before .before .before .pre) (loop-test .taken) (c .before .before .before .before .word-at .ensures))),
+      omega arith,
+      leaf .kept .0 ∙ loop .inv .2,
+    )
 
 same-length : tie.Need-same-length Inv-loop μ-loop
 same-length c = c .before .loop .inv .2

@@ -1,4 +1,4 @@
--- `start` writes where nothing is refused. Assumes nothing.
+-- `start` writes where nothing is refused.
 use mathlib.Core.Path.{sym, _∙_}
 use borrow.Author.Needs.{needs}
 use Rattle.watchdog_start.proofs.Begun.{accepted, refused}
@@ -18,7 +18,9 @@ same-length-2 : tie.Need-same-length-2
 same-length-2 c = search needs
 
 returns : tie.Need-returns
-returns c = accepted _ _ _ _ _ _ _ _ (sym (c .before .before .before .before .before .before .before .refusal .ensures) ∙ c .before .before .before .before .before .before .if1 .taken) (c .before .before .before .begin .ensures .0) (c .before .before .before .begin .ensures .1 .0) (c .before .before .before .begin .ensures .1 .1)
+returns c =
+    let begin = c .before .before .before .begin in
+    accepted _ _ _ _ _ _ _ _ (sym (c .before .before .before .before .before .before .before .refusal .ensures) ∙ c .before .before .before .before .before .before .if1 .taken) (begin .ensures .0) (begin .ensures .1 .0) (begin .ensures .1 .1)
 
 state-requires : tie.Need-state-requires
 state-requires c κs = search needs

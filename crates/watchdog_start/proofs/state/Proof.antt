@@ -1,4 +1,4 @@
--- `state` makes its record. Assumes nothing.
+-- `state` makes its record.
 use mathlib.Core.Path.{refl}
 use Rattle.watchdog_start.specs.Writing.{state-with}
 use Rattle.watchdog_start.proofs.state.Statement.{statement}

@@ -1,4 +1,4 @@
--- `sum` has added what stands before i. Assumes nothing.
+-- `sum` has added what stands before i.
 use mathlib.Core.Path.{_≡_}
 use Prim.Native.Nat.{_+_, _-_, _≤_}
 use native.Mathlib.Omega.{arith}
@@ -24,12 +24,16 @@ shared-slice-read-t : tie.Need-shared-slice-read-t Inv-loop μ-loop
 shared-slice-read-t c = omega arith
 
 add-t : tie.Need-add-t Inv-loop μ-loop
-add-t c = omega (
-  arith,
-  c .before .before .loop .inv .0,
-  total-here (c .before .before .before .args .weights .now) (c .before .before .loop .i) (c .before .loop-test .taken),
-  total-few (c .before .before .before .args .weights .now) (c .before .before .before .pre .0) (c .before .before .before .pre .1),
-)
+add-t c =
+    let loop = c .before .before .loop in
+    let args = c .before .before .before .args in
+    let pre = c .before .before .before .pre in
+    omega (
+      arith,
+      loop .inv .0,
+      total-here (args .weights .now) (loop .i) (c .before .loop-test .taken),
+      total-few (args .weights .now) (pre .0) (pre .1),
+    )
 
 add-i : tie.Need-add-i Inv-loop μ-loop
 add-i c = omega arith
@@ -38,13 +42,16 @@ loop-less : tie.Need-loop-less Inv-loop μ-loop
 loop-less c = omega arith
 
 loop-again : tie.Need-loop-again Inv-loop μ-loop
-loop-again c = (
-  omega (arith, c .before .before .loop .inv .0, total-here (c .before .before .before .args .weights .now) (c .before .before .loop .i) (c .before .loop-test .taken)),
-  omega arith,
-)
+loop-again c =
+    let loop = c .before .before .loop in (
+      omega (arith, loop .inv .0, total-here (c .before .before .before .args .weights .now) (loop .i) (c .before .loop-test .taken)),
+      omega arith,
+    )
 
 returns : tie.Need-returns Inv-loop μ-loop
-returns c = omega (arith, c .before .loop .inv .0, total-none (c .before .before .args .weights .now) (c .before .loop .i) (c .loop-test .left))
+returns c =
+    let loop = c .before .loop in
+    omega (arith, loop .inv .0, total-none (c .before .before .args .weights .now) (loop .i) (c .loop-test .left))
 
 pub sum-spec : {M : Type 1} → statement M
 sum-spec = tie.close (tie.spec Inv-loop μ-loop loop-holds mul-t shared-slice-read-t add-t add-i loop-less loop-again returns)

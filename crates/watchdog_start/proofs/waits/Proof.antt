@@ -1,4 +1,4 @@
--- `waits` has written a waiting entry for each weight before i. Assumes nothing.
+-- `waits` has written a waiting entry for each weight before i.
 use mathlib.Core.Path.{_≡_, refl, _∙_}
 use mathlib.Core.List.{List}
 use Prim.Native.Nat.{_-_, _≤_}
@@ -43,11 +43,13 @@ loop-less : tie.Need-loop-less Inv-loop μ-loop
 loop-less c = omega arith
 
 loop-again : tie.Need-loop-again Inv-loop μ-loop
-loop-again c = (
-  λ b. wait-next _ _ _ _ _ (c .before .before .before .before .before .loop-test .taken) (c .before .before .before .before .before .before .loop .inv .0 b) (c .before .before .waiting .ensures b),
-  omega arith,
-  c .before .before .waiting .kept .0 ∙ c .before .before .before .before .before .before .loop .inv .2,
-)
+loop-again c =
+    let waiting = c .before .before .waiting in
+    let loop = c .before .before .before .before .before .before .loop in (
+      λ b. wait-next _ _ _ _ _ (c .before .before .before .before .before .loop-test .taken) (loop .inv .0 b) (waiting .ensures b),
+      omega arith,
+      waiting .kept .0 ∙ loop .inv .2,
+    )
 
 same-length : tie.Need-same-length Inv-loop μ-loop
 same-length c = c .before .loop .inv .2
