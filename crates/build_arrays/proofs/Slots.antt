@@ -6,7 +6,7 @@ use native.Mathlib.Omega.{arith}
 use lib.ListN.{length, getD, take, drop, set, replicate, length-append, length-drop}
 use lib.Seq.{take-suc, length-take-le, getD-drop}
 use Rattle.rules.specs.Lists.{rising, padded}
-use Rattle.laws.specs.Facts.{rising-length}
+use Rattle.laws.specs.Lists.Facts.{rising-length}
 
 put-first : (k : ℕ) (xs : List ℕ) (w : ℕ) → set (xs ++ replicate (suc k) 0) (length xs) w ≡ (xs ++ (w ∷ [])) ++ replicate k 0
 put-first k [] w = refl

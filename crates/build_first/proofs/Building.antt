@@ -12,10 +12,10 @@ use Rattle.rules.specs.Totalizer.{Arena}
 use Rattle.rules.specs.Build.{Build, restructured, buildOf, build-over, largest, some-wait}
 use Rattle.rules.specs.Queue.{heavier, Sorting, queue-run, gathered}
 use Rattle.rules.specs.Buckets.{buckets-over, build-structure}
-use Rattle.laws.specs.Facts.{All, All-rising, rising-length}
-use Rattle.laws.specs.Powers.{below-digits, digits-top, top-bit-mono}
-use Rattle.laws.specs.Runs.{largest-sort}
-use Rattle.laws.specs.Images.{padded-front}
+use Rattle.laws.specs.Lists.Facts.{All, All-rising, rising-length}
+use Rattle.laws.specs.Numbers.Powers.{below-digits, digits-top, top-bit-mono}
+use Rattle.laws.specs.Queue.Runs.{largest-sort}
+use Rattle.laws.specs.Records.Images.{padded-front}
 use Rattle.preserve.specs.Given.{set-positive, weights-few}
 use Rattle.preserve.specs.Sizes.{first-powers-20}
 use Rattle.records.specs.Carries.{St, Fits, Carries, Makes}

@@ -6,7 +6,7 @@ use lib.ListN.{length}
 use Rattle.rules.specs.Lists.{sort}
 use Rattle.rules.specs.Build.{Build, largest}
 use Rattle.rules.specs.Queue.{heavier}
-use Rattle.laws.specs.Formed.{Formed}
+use Rattle.laws.specs.WellFormed.Plain.{Formed}
 use Rattle.build_line.specs.Work.{line, count-at}
 
 pub record Ready (b : Build) (ws : List ℕ) (h : ℕ) : Type 0 where

@@ -14,8 +14,8 @@ use Rattle.rules.specs.Records.{Entry}
 use Rattle.rules.specs.Totalizer.{Arena, merge}
 use Rattle.rules.specs.Build.{largest}
 use Rattle.rules.specs.Queue.{run, others, requeue, Sorting, queue-step, queue-run}
-use Rattle.laws.specs.Powers.{top-bit-below}
-use Rattle.laws.specs.Runs.{step-less, run-stops, steps-keep}
+use Rattle.laws.specs.Numbers.Powers.{top-bit-below}
+use Rattle.laws.specs.Queue.Runs.{step-less, run-stops, steps-keep}
 use Rattle.records.specs.declared.Marks.{Marks}
 use Rattle.records.specs.Carries.{St, st, Makes, on-records, with-records}
 use Rattle.records.proofs.Grow.{Grows, grows-self, grows-trans}

@@ -14,11 +14,11 @@ use Rattle.rules.specs.Records.{Entry}
 use Rattle.rules.specs.Totalizer.{Arena, merge}
 use Rattle.rules.specs.Build.{largest}
 use Rattle.rules.specs.Queue.{heavier, run, others, requeue, queue-step}
-use Rattle.laws.specs.Facts.{All, All-map, All-make, length-total}
-use Rattle.laws.specs.Sorts.{Ordered, ordered-insert}
-use Rattle.laws.specs.Powers.{top-bit-within, top-bit-below}
-use Rattle.laws.specs.Runs.{heavier-order, largest-all, all-largest, others-less, requeue-all, run-some}
-use Rattle.laws.specs.Loads.{load, load-step, nodes-of}
+use Rattle.laws.specs.Lists.Facts.{All, All-map, All-make, length-total}
+use Rattle.laws.specs.Lists.Sorts.{Ordered, ordered-insert}
+use Rattle.laws.specs.Numbers.Powers.{top-bit-within, top-bit-below}
+use Rattle.laws.specs.Queue.Runs.{heavier-order, largest-all, all-largest, others-less, requeue-all, run-some}
+use Rattle.laws.specs.Queue.Loads.{load, load-step, nodes-of}
 use Rattle.numbers.proofs.Bits.{power-whole}
 use Rattle.records.specs.declared.Marks.{Marks}
 use Rattle.records.specs.Carries.{St, st, Makes, on-records, with-records}

@@ -7,8 +7,8 @@ use Rattle.rules.specs.Records.{Entry}
 use Rattle.rules.specs.Totalizer.{Arena}
 use Rattle.rules.specs.Build.{largest}
 use Rattle.rules.specs.Queue.{heavier, Sorting}
-use Rattle.laws.specs.Sorts.{Ordered}
-use Rattle.laws.specs.Loads.{load}
+use Rattle.laws.specs.Lists.Sorts.{Ordered}
+use Rattle.laws.specs.Queue.Loads.{load}
 use Rattle.records.specs.Carries.{with-records}
 use Rattle.build_line.specs.Work.{line, count-at, members-from}
 

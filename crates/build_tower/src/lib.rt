@@ -8,7 +8,7 @@ ghost use Rattle.rules.specs.Lists.{sort};
 ghost use Rattle.rules.specs.Records.{Record, Entry, waiting};
 ghost use Rattle.rules.specs.Build.{largest};
 ghost use Rattle.rules.specs.Queue.{heavier};
-ghost use Rattle.laws.specs.Facts.{All};
+ghost use Rattle.laws.specs.Lists.Facts.{All};
 ghost use Rattle.records.specs.Carries.{st, Makes, Stores};
 ghost use Rattle.build_line.specs.Work.{line, count-at, members-from, made-in};
 ghost use Rattle.build_queue.specs.Queued.{Queued};

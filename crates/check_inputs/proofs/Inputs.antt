@@ -12,9 +12,9 @@ use borrow.Author.Tests.{eq-eqb, ne-eqb, eqb-true, eqb-false, lt-ltb, le-leb, le
 use Rattle.rules.specs.Lists.{all, any, among, keep, rising}
 use Rattle.rules.specs.Records.{Kind, leaf, join, dummy, Record, Entry, node, output, waiting, unknown, waits, node-of, node-image, record-image, literal-word, word-literal, entries, dummy-node}
 use Rattle.rules.specs.WellFormed.{variable-of, waiting-last}
-use Rattle.laws.specs.Words.{literal-word-literal, both}
-use Rattle.laws.specs.Facts.{and-true}
-use Rattle.laws.specs.Clauses.{last-of}
+use Rattle.laws.specs.Records.Words.{literal-word-literal, both}
+use Rattle.laws.specs.Lists.Facts.{and-true}
+use Rattle.laws.specs.WellFormed.Clauses.{last-of}
 use Rattle.records.specs.declared.Fields.{Fields}
 use Rattle.records.specs.Words.{fields}
 use Rattle.check_inputs.specs.Steps.{is-entry, waits-in}

@@ -11,9 +11,9 @@ use borrow.Author.Tests.{eqb-true, eqb-false, eq-eqb, ne-eqb, leb-true, le-leb, 
 use Rattle.rules.specs.Lists.{all, same, rising}
 use Rattle.rules.specs.Records.{leaf, join, dummy, Record, node, output, waiting, unknown, literal-word, word-literal, node-image, record-image, reading, recordOf, recordsOf}
 use Rattle.rules.specs.WellFormed.{known, kinds-known}
-use Rattle.laws.specs.Words.{same-self, same-true, both, word-not-one}
-use Rattle.laws.specs.Facts.{and-true}
-use Rattle.laws.specs.Whole.{records-length}
+use Rattle.laws.specs.Records.Words.{same-self, same-true, both, word-not-one}
+use Rattle.laws.specs.Lists.Facts.{and-true}
+use Rattle.laws.specs.WellFormed.Whole.{records-length}
 use Rattle.numbers.proofs.Literals.{word-literal-word}
 use Rattle.records.specs.Words.{field-at}
 use Rattle.check_kinds.specs.Words.{zeros, kind-known, words-known, known-at}

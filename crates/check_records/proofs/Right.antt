@@ -11,8 +11,8 @@ use borrow.Author.Tests.{eq-eqb, ne-eqb, lt-ltb, le-ltb}
 use Rattle.rules.specs.Lists.{all, among, rising}
 use Rattle.rules.specs.Records.{Kind, leaf, join, dummy, Record, node, output, waiting, unknown, waits, node-of, nodeAt, node-image, record-image, literal-word, word-literal, dummy-node}
 use Rattle.rules.specs.WellFormed.{is-node, is-leaf, spares-buckets, above}
-use Rattle.laws.specs.Words.{literal-word-literal}
-use Rattle.laws.specs.Places.{place}
+use Rattle.laws.specs.Records.Words.{literal-word-literal}
+use Rattle.laws.specs.Records.Places.{place}
 use Rattle.records.specs.declared.Fields.{Fields}
 use Rattle.records.specs.Words.{field-at, fields}
 use Rattle.records.specs.Carries.{Stores}

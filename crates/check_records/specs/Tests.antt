@@ -9,7 +9,7 @@ use Rattle.rules.specs.Numbers.{lawful, most-weight}
 use Rattle.rules.specs.Records.{Kind, leaf, join, dummy, Record, node, output, waiting, unknown, waits, nodeAt}
 use Rattle.rules.specs.Totalizer.{counts}
 use Rattle.rules.specs.WellFormed.{is-leaf, spares-buckets}
-use Rattle.laws.specs.Places.{place}
+use Rattle.laws.specs.Records.Places.{place}
 use Rattle.check_records.specs.declared.Limits.{Limits}
 
 -- a node by the totalizer rule, its links nodes, its literal lawful, its maximum at most 513

@@ -8,7 +8,7 @@ ghost use lib.ListN.{getD};
 ghost use Rattle.rules.specs.Records.{leaf, join, Record, unknown, node-of, nodeAt, record-image, word-literal};
 ghost use Rattle.rules.specs.Totalizer.{counts};
 ghost use Rattle.rules.specs.WellFormed.{is-leaf, spares-buckets};
-ghost use Rattle.laws.specs.Places.{place};
+ghost use Rattle.laws.specs.Records.Places.{place};
 ghost use Rattle.records.specs.Words.{fields};
 ghost use Rattle.records.specs.Carries.{Stores};
 ghost use Rattle.check_records.specs.Tests.{kind-right, output-right, entry-right, record-right, order-at, place-right, records-right};

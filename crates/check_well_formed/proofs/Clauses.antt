@@ -11,11 +11,11 @@ use Rattle.rules.specs.Numbers.{lawful-weight, most-weight}
 use Rattle.rules.specs.Records.{Record, Output, Entry, nodeAt, nodes, outputs, entries}
 use Rattle.rules.specs.Build.{tares-of, buckets-of}
 use Rattle.rules.specs.WellFormed.{is-leaf, waiting-last, outputs-rise, links-nodes, outputs-no-leaf, outputs-distinct, values-within, variable-of, numbers-of, input-variables, numbers-distinct, numbers-above, numbers-below, waiting-below-built, spares-buckets, links-spare-buckets, entries-spare-buckets, waiting-lawful}
-use Rattle.laws.specs.Words.{both}
-use Rattle.laws.specs.Facts.{and-true, all-facts, facts-all}
-use Rattle.laws.specs.Places.{place, LinksPass, links-pass, pass-links}
-use Rattle.laws.specs.Formed.{Sound}
-use Rattle.laws.specs.Clauses.{sound-of, of-sound-leaves, of-sound-links, of-sound-heights, of-sound-maxima, of-sound-bounds}
+use Rattle.laws.specs.Records.Words.{both}
+use Rattle.laws.specs.Lists.Facts.{and-true, all-facts, facts-all}
+use Rattle.laws.specs.Records.Places.{place, LinksPass, links-pass, pass-links}
+use Rattle.laws.specs.WellFormed.Plain.{Sound}
+use Rattle.laws.specs.WellFormed.Clauses.{sound-of, of-sound-leaves, of-sound-links, of-sound-heights, of-sound-maxima, of-sound-bounds}
 use Rattle.check_records.specs.declared.Limits.{Limits}
 use Rattle.check_records.specs.Tests.{output-right, entry-right, records-right}
 use Rattle.check_well_formed.specs.Groups.{hold, numbered-clauses, numbered, Limited}

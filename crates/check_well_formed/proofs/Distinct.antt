@@ -9,8 +9,8 @@ use borrow.Author.Tests.{ne-eqb, leb-true}
 use Rattle.rules.specs.Lists.{all, any, among, distinct}
 use Rattle.rules.specs.Records.{Output}
 use Rattle.rules.specs.WellFormed.{rise-from}
-use Rattle.laws.specs.Words.{both}
-use Rattle.laws.specs.Facts.{and-true}
+use Rattle.laws.specs.Records.Words.{both}
+use Rattle.laws.specs.Lists.Facts.{and-true}
 
 pub all-append : {A : Type 0} (p : A → Bool) (xs ys : List A) → all p (xs ++ ys) ≡ (all p xs && all p ys)
 unfolding all

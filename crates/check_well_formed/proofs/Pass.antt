@@ -13,10 +13,10 @@ use Rattle.rules.specs.Numbers.{lawful}
 use Rattle.rules.specs.Records.{Kind, leaf, join, dummy, Node, Output, Entry, Record, node, output, waiting, unknown, waits, nodeAt, nodes, outputs, entries, dummy-node}
 use Rattle.rules.specs.Totalizer.{counts}
 use Rattle.rules.specs.WellFormed.{is-leaf, is-dummy, waiting-last, spares-buckets}
-use Rattle.laws.specs.Words.{both}
-use Rattle.laws.specs.Facts.{and-true}
-use Rattle.laws.specs.Places.{place, nodes-each, each-nodes}
-use Rattle.laws.specs.Formed.{Ruled, Sound}
+use Rattle.laws.specs.Records.Words.{both}
+use Rattle.laws.specs.Lists.Facts.{and-true}
+use Rattle.laws.specs.Records.Places.{place, nodes-each, each-nodes}
+use Rattle.laws.specs.WellFormed.Plain.{Ruled, Sound}
 use Rattle.check_records.specs.declared.Limits.{Limits}
 use Rattle.check_records.specs.Tests.{kind-right, output-right, entry-right, record-right, order-at, place-right, records-right}
 use Rattle.check_arrays.proofs.Walk.{all-later, all-places, all-same, all-both}

@@ -9,8 +9,8 @@ use Rattle.rules.specs.declared.State.{State}
 use Rattle.rules.specs.Lists.{all}
 use Rattle.rules.specs.Records.{Record}
 use Rattle.rules.specs.WellFormed.{tares-within, buckets-within, kinds-known, maxima-within, links-spare-buckets, entries-spare-buckets, inputs-within, waiting-within, waiting-maxima-within, waiting-lawful, waiting-below-built, unbuilt-clauses, built-clauses, clauses-over}
-use Rattle.laws.specs.Words.{both}
-use Rattle.laws.specs.Facts.{and-true}
+use Rattle.laws.specs.Records.Words.{both}
+use Rattle.laws.specs.Lists.Facts.{and-true}
 use Rattle.check_well_formed.specs.Groups.{hold, state-right-clauses, state-right, numbered-clauses, numbered, waiting-few-clauses, waiting-few, built-numbers-clauses, built-numbers, built-right-clauses, built-right, unbuilt-right, records-hold-clauses, records-hold}
 use Rattle.check_well_formed.proofs.Distinct.{all-append}
 use Rattle.check_well_formed.proofs.Clauses.{held-at}

@@ -17,9 +17,9 @@ use Rattle.rules.specs.Digits.{power-of-two}
 use Rattle.rules.specs.Records.{Record, Entry, nodeAt, entries, recordsOf}
 use Rattle.rules.specs.Build.{tares-of, buckets-of, some-wait}
 use Rattle.rules.specs.WellFormed.{slots-within, waiting-last, kinds-known, outputs-rise, outputs-distinct}
-use Rattle.laws.specs.Words.{image-of-records}
-use Rattle.laws.specs.Facts.{All-make, total-cong, length-total}
-use Rattle.laws.specs.Whole.{records-length}
+use Rattle.laws.specs.Records.Words.{image-of-records}
+use Rattle.laws.specs.Lists.Facts.{All-make, total-cong, length-total}
+use Rattle.laws.specs.WellFormed.Whole.{records-length}
 use Rattle.records.specs.Carries.{Stores}
 use Rattle.check_records.specs.declared.Limits.{Limits}
 use Rattle.check_records.specs.Tests.{records-right}

@@ -12,11 +12,11 @@ use Rattle.rules.specs.Numbers.{capacity}
 use Rattle.rules.specs.Records.{Record, waiting, imageOf, recordsOf}
 use Rattle.rules.specs.Build.{Build, records, clause-total, clause-mark, clause-words, build-over, buildOf, held}
 use Rattle.rules.specs.WellFormed.{known}
-use Rattle.laws.specs.Facts.{facts-all}
-use Rattle.laws.specs.Words.{image-of-records}
-use Rattle.laws.specs.Images.{records-more}
-use Rattle.laws.specs.Whole.{records-length}
-use Rattle.laws.specs.Formed.{WellFormed}
+use Rattle.laws.specs.Lists.Facts.{facts-all}
+use Rattle.laws.specs.Records.Words.{image-of-records}
+use Rattle.laws.specs.Records.Images.{records-more}
+use Rattle.laws.specs.WellFormed.Whole.{records-length}
+use Rattle.laws.specs.WellFormed.Plain.{WellFormed}
 use Rattle.records.specs.Carries.{St, st, Carries, Lent, read-arena, Stores, peak}
 use Rattle.records.proofs.Entry.{begins}
 use Rattle.records.proofs.Small.{peak-sound}

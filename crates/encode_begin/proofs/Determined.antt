@@ -9,7 +9,7 @@ use denote.Triple.Clauses.{AtExit}
 use contract.Lifetimes.{Lfts}
 use Rattle.rules.specs.Records.{Record, Entry, waiting, waits}
 use Rattle.rules.specs.Build.{Build}
-use Rattle.laws.specs.Facts.{All}
+use Rattle.laws.specs.Lists.Facts.{All}
 use Rattle.records.specs.Carries.{Stores}
 use Rattle.build_line.specs.Work.{line}
 use Rattle.build_line.proofs.Determined.{heads-same}

@@ -6,7 +6,7 @@ use Prim.Native.Nat.{ℕ, zero, suc, _+_, _≤_, _<_}
 use native.Mathlib.Omega.{arith}
 use lib.ListN.{length, getD, length-append}
 use Rattle.rules.specs.Records.{Entry, Record, waiting, unknown, waits}
-use Rattle.laws.specs.Facts.{All}
+use Rattle.laws.specs.Lists.Facts.{All}
 
 pub made-on : (rs : List Record) (es : List Entry) (i : ℕ) → waits (getD (rs ++ map waiting es) i unknown) ≡ false → i < length (rs ++ map waiting es) →
     i ≤ length rs → i + 1 ≤ length rs

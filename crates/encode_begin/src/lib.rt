@@ -5,7 +5,7 @@ ghost use mathlib.Core.Bool.{true, not};
 ghost use mathlib.Core.List.{List, _++_, map};
 ghost use lib.ListN.{length};
 ghost use Rattle.rules.specs.Records.{Record, Entry, waiting, waits};
-ghost use Rattle.laws.specs.Facts.{All};
+ghost use Rattle.laws.specs.Lists.Facts.{All};
 ghost use Rattle.records.specs.Carries.{Stores};
 ghost use Rattle.encode_begin.specs.Named.{begun};
 use records::Marks;

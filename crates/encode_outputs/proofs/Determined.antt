@@ -13,7 +13,7 @@ use Rattle.rules.specs.Lists.{rising}
 use Rattle.rules.specs.Records.{Record}
 use Rattle.rules.specs.Build.{Build, root}
 use Rattle.rules.specs.Encode.{encode-outputs as outputs-rule}
-use Rattle.laws.specs.Facts.{rising-length}
+use Rattle.laws.specs.Lists.Facts.{rising-length}
 use Rattle.records.specs.Carries.{St, st, Fits, Carries, Stores}
 use Rattle.records.proofs.Entry.{Same-end, steps-determined}
 use Rattle.records.proofs.Agree.{Agree, carries-same}

@@ -10,7 +10,7 @@ use Rattle.rules.specs.Records.{Entry, waiting, record-image, imageOf}
 use Rattle.rules.specs.Totalizer.{Arena}
 use Rattle.rules.specs.Build.{Build, with-arena, restructured, root}
 use Rattle.rules.specs.Encode.{encode-outputs}
-use Rattle.laws.specs.Images.{drop-take}
+use Rattle.laws.specs.Records.Images.{drop-take}
 use Rattle.records.specs.declared.Marks.{Marks}
 use Rattle.records.specs.Carries.{St, bufferOf, Fits, Carries}
 use Rattle.records.proofs.Grow.{Grows, grows-trans, fits-less}

@@ -10,10 +10,10 @@ use lib.IntN.{ℤ}
 use Rattle.rules.specs.declared.State.{State}
 use Rattle.rules.specs.Records.{Record, waiting, imageOf}
 use Rattle.rules.specs.Build.{Build, buildOf, build-over, tares-of, buckets-of, root}
-use Rattle.laws.specs.Formed.{WellFormed}
-use Rattle.laws.specs.Reads.{slots-count}
-use Rattle.laws.specs.Images.{image-append, drop-take}
-use Rattle.laws.specs.Words.{image-length}
+use Rattle.laws.specs.WellFormed.Plain.{WellFormed}
+use Rattle.laws.specs.WellFormed.ToPlain.{slots-count}
+use Rattle.laws.specs.Records.Images.{image-append, drop-take}
+use Rattle.laws.specs.Records.Words.{image-length}
 use Rattle.records.specs.Carries.{st, Carries}
 use Rattle.encode_outputs.specs.Taken.{entries-by}
 use Rattle.encode_begin.specs.declared.Structure.{Structure}

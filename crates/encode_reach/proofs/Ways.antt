@@ -16,7 +16,7 @@ use Rattle.rules.specs.Queue.{heavier}
 use Rattle.rules.specs.Buckets.{build-structure}
 use Rattle.rules.specs.Refinement.{due, merge-structures}
 use Rattle.rules.specs.Encode.{prepared, encode-outputs, divisor-above}
-use Rattle.laws.specs.Formed.{WellFormed}
+use Rattle.laws.specs.WellFormed.Plain.{WellFormed}
 use Rattle.records.specs.declared.Marks.{Marks}
 use Rattle.records.specs.Carries.{St, st, Fits, Carries, Stores}
 use Rattle.build_line.specs.Work.{line, count-at}

@@ -7,7 +7,7 @@ use lib.ListN.{length, getD, take}
 use Rattle.rules.specs.Lists.{padded}
 use Rattle.rules.specs.Totalizer.{Arena}
 use Rattle.rules.specs.Build.{Build}
-use Rattle.laws.specs.Facts.{occurs}
+use Rattle.laws.specs.Lists.Facts.{occurs}
 use Rattle.records.specs.Carries.{St, storeOf, bufferOf, marksOf, Fits, Holds}
 use Rattle.encode_outputs.specs.Taken.{with-waiting}
 use Rattle.rules.specs.Encode.{prepared}

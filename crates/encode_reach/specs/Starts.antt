@@ -6,7 +6,7 @@ use lib.ListN.{length}
 use lib.IntN.{ℤ}
 use Rattle.rules.specs.declared.State.{State}
 use Rattle.rules.specs.Build.{buildOf}
-use Rattle.laws.specs.Formed.{WellFormed}
+use Rattle.laws.specs.WellFormed.Plain.{WellFormed}
 
 -- a well formed state whose waiting records begin at n, and a range that is not empty
 pub record Starts (s : State) (store : List ℕ) (clauses : List ℤ) (n lo end : ℕ) : Type 0 where

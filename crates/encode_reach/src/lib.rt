@@ -6,7 +6,7 @@ ghost use lib.ListN.{length, take};
 ghost use Rattle.rules.specs.Build.{buildOf, largest};
 ghost use mathlib.Core.Bool.{false};
 ghost use Rattle.rules.specs.Encode.{prepared, encode-outputs, divisor-above};
-ghost use Rattle.laws.specs.Formed.{WellFormed};
+ghost use Rattle.laws.specs.WellFormed.Plain.{WellFormed};
 ghost use Rattle.records.specs.Carries.{st};
 ghost use Rattle.encode_begin.specs.Named.{begun};
 ghost use Rattle.encode_undo.specs.Aside.{Aside};

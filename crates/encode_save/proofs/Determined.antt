@@ -12,7 +12,7 @@ use borrow.Author.Tests.{ltb-true, ltb-false}
 use borrow.Fn.Kinds.{Dens, resT, endedOf}
 use denote.Triple.Clauses.{AtExit}
 use contract.Lifetimes.{Lfts}
-use Rattle.laws.specs.Facts.{occurs}
+use Rattle.laws.specs.Lists.Facts.{occurs}
 use Rattle.encode_save.specs.Copies.{Saved, Saves, Restores}
 use Rattle.encode_save.proofs.copy.Kinds as copy-kinds
 use Rattle.encode_save.proofs.copy.Reads as copy

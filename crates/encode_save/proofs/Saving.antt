@@ -9,7 +9,7 @@ use lib.Dec.{ltb, eqb}
 use lib.ListN.{length, getD, take}
 use lib.Seq.{take-suc, getD-take}
 use borrow.Author.Tests.{ltb-true, ltb-false, eqb-true, eqb-false}
-use Rattle.laws.specs.Facts.{occurs, occurs-here, occurs-other, occurs-append}
+use Rattle.laws.specs.Lists.Facts.{occurs, occurs-here, occurs-other, occurs-append}
 use Rattle.encode_save.specs.Copies.{copied, Saved, Saves, Restores}
 use Rattle.encode_save.proofs.Copying.{copied-length, copied-in, copied-below, copied-above, front-same}
 

@@ -3,7 +3,7 @@ use mathlib.Core.Path.{_≡_}
 use mathlib.Core.List.{List, _++_}
 use Prim.Native.Nat.{ℕ, _+_, _*_, _/_, _≤_, _<_}
 use lib.ListN.{length, getD, take, drop}
-use Rattle.laws.specs.Facts.{occurs}
+use Rattle.laws.specs.Lists.Facts.{occurs}
 
 -- `to` with its words from b on replaced by n of `from`, from a on
 unfoldable pub copied : List ℕ → ℕ → List ℕ → ℕ → ℕ → List ℕ

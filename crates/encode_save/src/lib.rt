@@ -2,7 +2,7 @@
 ghost use mathlib.Core.Path.{_≡_};
 ghost use Prim.Native.Nat.{_+_, _*_, _≤_};
 ghost use lib.ListN.{length, take};
-ghost use Rattle.laws.specs.Facts.{All};
+ghost use Rattle.laws.specs.Lists.Facts.{All};
 ghost use Rattle.encode_save.specs.Copies.{copied, Saves, Restores};
 
 // n words of one slice, from a on, over those of another from b on. Linear in the words.

@@ -7,8 +7,8 @@ use lib.ListN.{length, getD, take, drop, length-drop, take-append-drop}
 use lib.Seq.{length-take-le, take-at, take-append-add, take-take}
 use Rattle.rules.specs.declared.State.{State}
 use Rattle.rules.specs.Build.{buckets-of}
-use Rattle.laws.specs.Facts.{occurs}
-use Rattle.laws.specs.Images.{drop-take}
+use Rattle.laws.specs.Lists.Facts.{occurs}
+use Rattle.laws.specs.Records.Images.{drop-take}
 use Rattle.encode_save.specs.Copies.{copied, Saves, Restores}
 use Rattle.encode_save.proofs.Copying.{front-same, copied-length}
 use Rattle.encode_undo.specs.Aside.{Aside, But}

@@ -5,7 +5,7 @@ use Prim.Native.Nat.{ℕ, _*_, _-_, _/_, _≤_, _<_}
 use lib.ListN.{length, getD, take, drop}
 use Rattle.rules.specs.declared.State.{State}
 use Rattle.rules.specs.Build.{buckets-of}
-use Rattle.laws.specs.Facts.{occurs}
+use Rattle.laws.specs.Lists.Facts.{occurs}
 use Rattle.encode_save.specs.Copies.{Saved}
 
 -- the words of the waiting records of o, which begin at record n, stand at the front of the work slice, and behind them those of the

@@ -5,7 +5,7 @@ ghost use mathlib.Core.List.{List};
 ghost use Prim.Native.Nat.{ℕ, _+_, _*_, _≤_};
 ghost use lib.ListN.{length, take};
 ghost use Rattle.rules.specs.Build.{buckets-of};
-ghost use Rattle.laws.specs.Facts.{All};
+ghost use Rattle.laws.specs.Lists.Facts.{All};
 ghost use Rattle.encode_undo.specs.Aside.{Aside, But};
 use rules::State;
 

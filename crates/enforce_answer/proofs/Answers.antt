@@ -13,7 +13,7 @@ use Rattle.rules.specs.Records.{Kind, leaf, Node, nodeAt, entries, literal-word
 use Rattle.rules.specs.Totalizer.{number-of, literal-of}
 use Rattle.rules.specs.Build.{Build, output-weight, root, root-node, largest, unbuilt}
 use Rattle.rules.specs.Enforce.{set-tares, output-answer, root-answer, built-answer, one-answer, enforce}
-use Rattle.laws.specs.Words.{literal-word-literal}
+use Rattle.laws.specs.Records.Words.{literal-word-literal}
 use Rattle.enforce_answer.specs.declared.Answered.{Answered}
 use Rattle.enforce_answer.specs.Ends.{Ended}
 use Rattle.enforce_answer.specs.Has.{Has}

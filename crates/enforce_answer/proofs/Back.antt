@@ -11,8 +11,8 @@ use lib.IntN.{ℤ, pos}
 use borrow.Author.Tests.{eqb-true, eqb-false, eq-eqb, ne-eqb}
 use Rattle.rules.specs.Records.{literal-word, word-literal}
 use Rattle.rules.specs.Enforce.{set-tares}
-use Rattle.laws.specs.Words.{literal-word-literal}
-use Rattle.laws.specs.Facts.{All, All-getD}
+use Rattle.laws.specs.Records.Words.{literal-word-literal}
+use Rattle.laws.specs.Lists.Facts.{All, All-getD}
 use Rattle.numbers.specs.Signed.{put-signed}
 use Rattle.records.specs.Words.{Buf, buf}
 use Rattle.enforce_answer.specs.Tares.{tare-step, tares-back}

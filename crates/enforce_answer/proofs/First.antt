@@ -9,7 +9,7 @@ use lib.Seq.{getD-take}
 use Rattle.rules.specs.Lists.{keep}
 use Rattle.rules.specs.Records.{Record, node, output, waiting, unknown, nodeAt, waits, entries, outputs}
 use Rattle.rules.specs.Totalizer.{number-in, number-of}
-use Rattle.laws.specs.Places.{nodes-same, waiting-none}
+use Rattle.laws.specs.Records.Places.{nodes-same, waiting-none}
 
 -- the first of the used buckets
 pub root-none : (bs : List ℕ) (used : ℕ) → used ≡ 0 → 0 ≡ getD (take used bs) 0 0

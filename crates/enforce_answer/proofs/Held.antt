@@ -15,7 +15,7 @@ use Rattle.rules.specs.Digits.{top-bit}
 use Rattle.rules.specs.Records.{leaf, Output, Record, nodeAt, entries, outputs}
 use Rattle.rules.specs.Build.{Build, records, tares-of, buckets-of, held, build-over, buildOf, root, largest}
 use Rattle.rules.specs.Enforce.{root-answer, built-answer, one-answer, enforce}
-use Rattle.laws.specs.Facts.{All, All-map, All-second}
+use Rattle.laws.specs.Lists.Facts.{All, All-map, All-second}
 use Rattle.records.specs.Carries.{Stores}
 use Rattle.precision_steps.specs.Read.{Readable}
 use Rattle.enforce_answer.specs.declared.Answered.{Answered}

@@ -10,7 +10,7 @@ ghost use lib.IntN.{ℤ};
 ghost use Rattle.rules.specs.Records.{leaf, nodeAt, word-literal};
 ghost use Rattle.rules.specs.Build.{Build, buildOf, root};
 ghost use Rattle.rules.specs.Enforce.{set-tares, one-answer, root-answer, built-answer, enforce};
-ghost use Rattle.laws.specs.Facts.{All};
+ghost use Rattle.laws.specs.Lists.Facts.{All};
 ghost use Rattle.records.specs.Words.{buf};
 ghost use Rattle.precision_steps.specs.Read.{Readable};
 ghost use Rattle.enforce_answer.specs.Tares.{tare-step};

@@ -14,15 +14,15 @@ use borrow.Author.Tests.{leb-true, leb-false, lt-leb}
 use Rattle.rules.specs.Records.{join, Record, nodeAt, outputs}
 use Rattle.rules.specs.Totalizer.{Arena, number-of, literal-of}
 use Rattle.rules.specs.Enforce.{set-tares}
-use Rattle.laws.specs.Facts.{All, All-map}
-use Rattle.laws.specs.Places.{place}
-use Rattle.laws.specs.Formed.{Sound}
-use Rattle.guarantee.specs.Truth.{Assign, Truths, holds, Sat, both, not-both, neg-holds, holds-agree}
-use Rattle.guarantee.specs.Values.{bit, value}
-use Rattle.guarantee.specs.Meaning.{literal, Claimed, every, Claim, found, output-holds, meant, meant-apart, meant-at, meant-sat}
-use Rattle.guarantee.specs.Defining.{Told}
-use Rattle.guarantee.specs.Chains.{tare-sum}
-use Rattle.guarantee.specs.Tares.{Held, tares-least, tares-exact, tared, tared-apart, Once, tared-bits, bits-same}
+use Rattle.laws.specs.Lists.Facts.{All, All-map}
+use Rattle.laws.specs.Records.Places.{place}
+use Rattle.laws.specs.WellFormed.Plain.{Sound}
+use Rattle.guarantee.specs.Meaning.Truth.{Assign, Truths, holds, Sat, both, not-both, neg-holds, holds-agree}
+use Rattle.guarantee.specs.Meaning.Values.{bit, value}
+use Rattle.guarantee.specs.Meaning.Derived.{literal, Claimed, every, Claim, found, output-holds, meant, meant-apart, meant-at, meant-sat}
+use Rattle.guarantee.specs.Meaning.Defining.{Told}
+use Rattle.guarantee.specs.Counting.Chains.{tare-sum}
+use Rattle.guarantee.specs.Counting.Tares.{Held, tares-least, tares-exact, tared, tared-apart, Once, tared-bits, bits-same}
 
 -- the weights of the inputs that are true, each divided by d and rounded down, added up
 abbrev pub sum-of : List ℤ → List ℕ → ℕ → Truths → ℕ

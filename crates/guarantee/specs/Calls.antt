@@ -22,19 +22,19 @@ use Rattle.rules.specs.Start.{start-refusal, new-build, StartEnd, start-end, st
 use Rattle.rules.specs.Precision.{divisor-coarser, set-refusal, with-set, set-end, set-precision}
 use Rattle.rules.specs.Encode.{encode, nothing-asked, nothing-done, divisor-above, encode-refusal, EncodeEnd, encoded, untouched, no-room-end, encoded-end, encode-end, encode-ub-change}
 use Rattle.rules.specs.Enforce.{one-answer, built-answer, root-answer, output-answer, enforce, EnforceEnd, refused-end, scratch-short, enforce-end, enforce-ub}
-use Rattle.laws.specs.Words.{image-length, settled, read, read-back}
-use Rattle.laws.specs.Appends.{after, earlier, encode-after, recounted, encode-recounted}
-use Rattle.laws.specs.Facts.{All, All-map, All-append, facts-all}
-use Rattle.laws.specs.Places.{place}
-use Rattle.laws.specs.Formed.{Sound, Rise, Formed}
+use Rattle.laws.specs.Records.Words.{image-length, settled, read, read-back}
+use Rattle.laws.specs.Encode.Appends.{after, earlier, encode-after, recounted, encode-recounted}
+use Rattle.laws.specs.Lists.Facts.{All, All-map, All-append, facts-all}
+use Rattle.laws.specs.Records.Places.{place}
+use Rattle.laws.specs.WellFormed.Plain.{Sound, Rise, Formed}
 use Rattle.preserve.specs.Starts.{lent, not-first}
 use Rattle.preserve.specs.Encodes.{Accepted, accepted}
 use Rattle.preserve.specs.Sets.{set-to}
-use Rattle.guarantee.specs.Truth.{Assign, holds, member-all}
-use Rattle.guarantee.specs.Meaning.{ClaimedKind, Claimed, Derived, rise-high, lawful-positive}
+use Rattle.guarantee.specs.Meaning.Truth.{Assign, holds, member-all}
+use Rattle.guarantee.specs.Meaning.Derived.{ClaimedKind, Claimed, Derived, rise-high, lawful-positive}
 use Rattle.guarantee.specs.Answers.{sum-of, Admits}
-use Rattle.guarantee.specs.Worlds.{Leads, here, then-set, then-encode, World}
-use Rattle.guarantee.specs.Reached.{started-world, leads-world}
+use Rattle.guarantee.specs.Histories.Worlds.{Leads, here, then-set, then-encode, World}
+use Rattle.guarantee.specs.Histories.Reached.{started-world, leads-world}
 use Rattle.guarantee.specs.Demand3.{demand3, demand3-empty}
 
 -- what a caller holds between calls

@@ -20,24 +20,24 @@ use Rattle.rules.specs.Build.{Build, unbuilt, output-weight, root, root-node, l
 use Rattle.rules.specs.Start.{start-refusal, new-build}
 use Rattle.rules.specs.Enforce.{set-tares, output-answer, root-answer, built-answer, enforce}
 use Rattle.rules.specs.WellFormed.{variable-of}
-use Rattle.laws.specs.Facts.{All, All-map, All-second, All-source, rising-at, occurs, occurs-append, occurs-here, occurs-more, All-self}
-use Rattle.laws.specs.Places.{place, number-in-kept}
-use Rattle.laws.specs.Powers.{top-bit-least}
-use Rattle.laws.specs.Runs.{largest-all}
-use Rattle.laws.specs.Formed.{Formed, Built, Linked, variables-of}
-use Rattle.laws.specs.Keeps.{All-places}
+use Rattle.laws.specs.Lists.Facts.{All, All-map, All-second, All-source, rising-at, occurs, occurs-append, occurs-here, occurs-more, All-self}
+use Rattle.laws.specs.Records.Places.{place, number-in-kept}
+use Rattle.laws.specs.Numbers.Powers.{top-bit-least}
+use Rattle.laws.specs.Queue.Runs.{largest-all}
+use Rattle.laws.specs.WellFormed.Plain.{Formed, Built, Linked, variables-of}
+use Rattle.laws.specs.WellFormed.Keeps.{All-places}
 use Rattle.preserve.specs.Starts.{lent}
 use Rattle.preserve.specs.Given.{taken-positive}
-use Rattle.guarantee.specs.Truth.{Assign, Truths, holds}
-use Rattle.guarantee.specs.Values.{value, value-all}
-use Rattle.guarantee.specs.Chains.{units, tare-sum, tare-all, tops}
-use Rattle.guarantee.specs.Roots.{root-law}
-use Rattle.guarantee.specs.Tares.{Once, set-tares-above}
-use Rattle.guarantee.specs.Queues.{waited, waited-none}
+use Rattle.guarantee.specs.Meaning.Truth.{Assign, Truths, holds}
+use Rattle.guarantee.specs.Meaning.Values.{value, value-all}
+use Rattle.guarantee.specs.Counting.Chains.{units, tare-sum, tare-all, tops}
+use Rattle.guarantee.specs.Counting.Roots.{root-law}
+use Rattle.guarantee.specs.Counting.Tares.{Once, set-tares-above}
+use Rattle.guarantee.specs.Counting.Queues.{waited, waited-none}
 use Rattle.guarantee.specs.Answers.{sum-of, Admits, Counting, bound-law, admits}
-use Rattle.guarantee.specs.Telling.{once-apart}
-use Rattle.guarantee.specs.Worlds.{Leads, here, World, Follows}
-use Rattle.guarantee.specs.Reached.{started-world, leads-world, leads-follows}
+use Rattle.guarantee.specs.Histories.Clauses.{once-apart}
+use Rattle.guarantee.specs.Histories.Worlds.{Leads, here, World, Follows}
+use Rattle.guarantee.specs.Histories.Reached.{started-world, leads-world, leads-follows}
 
 once-of : (ts : List ℕ) → ((n : ℕ) → occurs n ts ≤ 1) → Once ts
 once-of [] h = tt

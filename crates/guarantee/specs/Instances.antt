@@ -15,9 +15,9 @@ use Rattle.rules.specs.Numbers.{divisor-of}
 use Rattle.rules.specs.Refusals.{divisor-unlawful}
 use Rattle.rules.specs.Precision.{divisor-coarser}
 use Rattle.preserve.specs.Sets.{set-to}
-use Rattle.guarantee.specs.Truth.{Assign, holds}
+use Rattle.guarantee.specs.Meaning.Truth.{Assign, holds}
 use Rattle.guarantee.specs.Answers.{sum-of, Admits}
-use Rattle.guarantee.specs.Worlds.{Leads, here, then-set, then-encode}
+use Rattle.guarantee.specs.Histories.Worlds.{Leads, here, then-set, then-encode}
 use Rattle.guarantee.specs.Demand3.{demand3, demand3-here, demand3-empty}
 
 abbrev xs : List ℤ

@@ -1,28 +1,10 @@
--- Demand 3: what a bound's answer admits.
-pub mod Truth
-pub mod Values
+-- Demand 3: what a bound's answer admits. In the order in which it is read: what clauses mean, what the tree counts, what a refinement
+-- keeps, what calls lead to; then the answers, the theorem, its instances, and the theorem over lent words.
 pub mod Meaning
-pub mod Growing
-pub mod Defining
-pub mod Sums
-pub mod Queues
-pub mod Chains
-pub mod Bucketing
-pub mod Roots
-pub mod Tares
+pub mod Counting
+pub mod Refinement
+pub mod Histories
 pub mod Answers
-pub mod Keeping
-pub mod Patching
-pub mod Extending
-pub mod Filling
-pub mod Weighing
-pub mod Refining
-pub mod Refined
-pub mod Leaves
-pub mod Telling
-pub mod Renewing
-pub mod Worlds
-pub mod Reached
 pub mod Demand3
 pub mod Instances
 pub mod Calls

@@ -8,7 +8,7 @@ use lib.Dec.{eqb, ltb}
 use borrow.Author.Tests.{ne-eqb, eq-eqb, le-ltb, lt-ltb}
 use Rattle.rules.specs.Digits.{top-bit}
 use Rattle.rules.specs.Coarse.{coarse-at}
-use Rattle.laws.specs.Facts.{or-right}
+use Rattle.laws.specs.Lists.Facts.{or-right}
 use Rattle.numbers.proofs.Bits.{power-whole}
 
 -- one law for each way

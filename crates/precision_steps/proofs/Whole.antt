@@ -8,11 +8,11 @@ use Rattle.rules.specs.declared.State.{State}
 use Rattle.rules.specs.Records.{waiting, entries}
 use Rattle.rules.specs.Build.{records, held, build-over, buildOf}
 use Rattle.rules.specs.WellFormed.{known}
-use Rattle.laws.specs.Facts.{All, All-append, facts-all}
-use Rattle.laws.specs.Words.{image-of-records}
-use Rattle.laws.specs.Writes.{waiting-known}
-use Rattle.laws.specs.Whole.{records-length}
-use Rattle.laws.specs.Formed.{WellFormed}
+use Rattle.laws.specs.Lists.Facts.{All, All-append, facts-all}
+use Rattle.laws.specs.Records.Words.{image-of-records}
+use Rattle.laws.specs.WellFormed.ToClauses.{waiting-known}
+use Rattle.laws.specs.WellFormed.Whole.{records-length}
+use Rattle.laws.specs.WellFormed.Plain.{WellFormed}
 use Rattle.precision_steps.specs.Read.{Readable}
 
 pub readable : (s : State) (store : List ℕ) (clauses : List ℤ) → WellFormed s store clauses → Readable s store

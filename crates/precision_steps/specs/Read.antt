@@ -3,7 +3,7 @@ use mathlib.Core.List.{List}
 use Prim.Native.Nat.{ℕ}
 use Rattle.rules.specs.declared.State.{State}
 use Rattle.rules.specs.Build.{buildOf, held}
-use Rattle.laws.specs.Formed.{Formed, Laid}
+use Rattle.laws.specs.WellFormed.Plain.{Formed, Laid}
 use Rattle.records.specs.Carries.{Stores}
 
 -- a state and a store that hold a build

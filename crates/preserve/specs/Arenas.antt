@@ -10,11 +10,11 @@ use Rattle.rules.specs.Records.{leaf, Node, Output, Record, output, waits, node
 use Rattle.rules.specs.Totalizer.{Arena}
 use Rattle.rules.specs.Build.{Build, restructured, with-arena, clause-total, clause-mark, clause-words, some-wait}
 use Rattle.rules.specs.WellFormed.{known}
-use Rattle.laws.specs.Facts.{All, All-append, All-first, All-source}
-use Rattle.laws.specs.Places.{place}
-use Rattle.laws.specs.Formed.{Sound, Defined, Taken, variables-of, Waits, Spares, Linked, Unbuilt, Built, Formed}
-use Rattle.laws.specs.Outputs.{Counted}
-use Rattle.laws.specs.Extends.{Goes}
+use Rattle.laws.specs.Lists.Facts.{All, All-append, All-first, All-source}
+use Rattle.laws.specs.Records.Places.{place}
+use Rattle.laws.specs.WellFormed.Plain.{Sound, Defined, Taken, variables-of, Waits, Spares, Linked, Unbuilt, Built, Formed}
+use Rattle.laws.specs.Totalizer.Outputs.{Counted}
+use Rattle.laws.specs.Refinement.Extends.{Goes}
 use Rattle.preserve.specs.Given.{Ahead, taken-positive}
 
 -- a well formed build's arena, ready for defining

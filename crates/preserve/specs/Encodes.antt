@@ -20,20 +20,20 @@ use Rattle.rules.specs.Buckets.{build-structure}
 use Rattle.rules.specs.Refinement.{due, patched, merge-structures}
 use Rattle.rules.specs.WellFormed.{well-formed, not-well-formed, input-variables}
 use Rattle.rules.specs.Encode.{prepared, root-values, encode-outputs, nothing-asked, encode, nothing-done, work-short, divisor-above, no-room, encode-refusal, EncodeEnd, encoded, untouched, encoded-end, encode-end, encode-ub-change}
-use Rattle.laws.specs.Words.{both}
-use Rattle.laws.specs.Facts.{All, All-rising, neither, not-not, all-facts}
-use Rattle.laws.specs.Places.{place, join-place, nodes-same, waiting-none}
-use Rattle.laws.specs.Formed.{variables-of, Formed, WellFormed}
-use Rattle.laws.specs.Climbs.{linked-joins}
-use Rattle.laws.specs.Defines.{define-keeps, fresh-write, fresh-take}
-use Rattle.laws.specs.Extends.{Goes, goes-turns, output-goes}
-use Rattle.laws.specs.Reads.{padded-length}
-use Rattle.laws.specs.Whole.{well-formed-facts, written}
+use Rattle.laws.specs.Records.Words.{both}
+use Rattle.laws.specs.Lists.Facts.{All, All-rising, neither, not-not, all-facts}
+use Rattle.laws.specs.Records.Places.{place, join-place, nodes-same, waiting-none}
+use Rattle.laws.specs.WellFormed.Plain.{variables-of, Formed, WellFormed}
+use Rattle.laws.specs.Refinement.Relinks.{linked-joins}
+use Rattle.laws.specs.Totalizer.Defines.{define-keeps, fresh-write, fresh-take}
+use Rattle.laws.specs.Refinement.Extends.{Goes, goes-turns, output-goes}
+use Rattle.laws.specs.WellFormed.ToPlain.{padded-length}
+use Rattle.laws.specs.WellFormed.Whole.{well-formed-facts, written}
 use Rattle.preserve.specs.Starts.{not-first}
 use Rattle.preserve.specs.Given.{Ahead, set-positive}
-use Rattle.preserve.specs.Builds.{first-formed, first-ahead}
+use Rattle.preserve.specs.FirstBuild.{first-formed, first-ahead}
 use Rattle.preserve.specs.Arenas.{counted-of, goes-formed, goes-ahead}
-use Rattle.preserve.specs.Refinements.{refinement-formed}
+use Rattle.preserve.specs.RefinementWhole.{refinement-formed}
 
 -- a build that is built and well formed, its next fresh number above every input variable
 pub record Ready (b : Build) : Type 0 where

@@ -11,15 +11,15 @@ use Rattle.rules.specs.Digits.{top-bit}
 use Rattle.rules.specs.Records.{Entry, Record}
 use Rattle.rules.specs.Build.{Build, largest}
 use Rattle.rules.specs.Queue.{heavier, Sorting, queue-step, queue-run, gathered}
-use Rattle.laws.specs.Facts.{All, All-map, occurs, All-zip}
-use Rattle.laws.specs.Places.{place, place-inside}
-use Rattle.laws.specs.Formed.{Formed}
-use Rattle.laws.specs.Runs.{largest-all, largest-sort, run-keeps}
-use Rattle.laws.specs.Gathers.{Gathers, gathers-step, gathers-members}
-use Rattle.laws.specs.Fills.{gathers-start, fills-step}
-use Rattle.laws.specs.Merges.{maxima}
-use Rattle.laws.specs.Towers.{Fit}
-use Rattle.laws.specs.Keeps.{All-places}
+use Rattle.laws.specs.Lists.Facts.{All, All-map, occurs, All-zip}
+use Rattle.laws.specs.Records.Places.{place, place-inside}
+use Rattle.laws.specs.WellFormed.Plain.{Formed}
+use Rattle.laws.specs.Queue.Runs.{largest-all, largest-sort, run-keeps}
+use Rattle.laws.specs.Queue.Gathers.{Gathers, gathers-step, gathers-members}
+use Rattle.laws.specs.Queue.Fills.{gathers-start, fills-step}
+use Rattle.laws.specs.Totalizer.Merges.{maxima}
+use Rattle.laws.specs.Buckets.Towers.{Fit}
+use Rattle.laws.specs.WellFormed.Keeps.{All-places}
 use Rattle.preserve.specs.Given.{set-positive}
 
 -- the queue before its first step

@@ -15,12 +15,12 @@ use Rattle.rules.specs.Numbers.{lawful}
 use Rattle.rules.specs.Digits.{top-bit}
 use Rattle.rules.specs.Records.{Node, Output, nodeAt, outputs}
 use Rattle.rules.specs.Build.{Build, largest, some-wait}
-use Rattle.laws.specs.Facts.{All, All-map, All-zip, All-second, All-rising}
-use Rattle.laws.specs.Places.{place, place-inside, join-place}
-use Rattle.laws.specs.Formed.{variables-of, Taken, Built, Formed}
-use Rattle.laws.specs.Runs.{all-largest}
-use Rattle.laws.specs.Climbs.{linked-joins}
-use Rattle.laws.specs.Keeps.{lawful-number}
+use Rattle.laws.specs.Lists.Facts.{All, All-map, All-zip, All-second, All-rising}
+use Rattle.laws.specs.Records.Places.{place, place-inside, join-place}
+use Rattle.laws.specs.WellFormed.Plain.{variables-of, Taken, Built, Formed}
+use Rattle.laws.specs.Queue.Runs.{all-largest}
+use Rattle.laws.specs.Refinement.Relinks.{linked-joins}
+use Rattle.laws.specs.WellFormed.Keeps.{lawful-number}
 
 -- the next fresh number is above every input variable
 abbrev pub Ahead : Build → Type 0

@@ -3,10 +3,10 @@ pub mod Starts
 pub mod Sets
 pub mod Given
 pub mod Gathered
-pub mod Builds
+pub mod FirstBuild
 pub mod Arenas
-pub mod Refines
-pub mod Refinements
+pub mod Refinement
+pub mod RefinementWhole
 pub mod Encodes
 pub mod Reaches
 pub mod Altered

@@ -18,13 +18,13 @@ use Rattle.rules.specs.WellFormed.{numbers-of, marks-within, well-formed, well-
 use Rattle.rules.specs.Start.{start-refusal, new-build, start, start-end}
 use Rattle.rules.specs.Precision.{set-refusal, with-set, set-end, set-precision}
 use Rattle.rules.specs.Encode.{encode, nothing-done, encode-refusal, EncodeEnd, encoded, untouched, no-room-end, encoded-end, encode-end, encode-ub-change}
-use Rattle.laws.specs.Words.{both, records-of-image}
-use Rattle.laws.specs.Facts.{All, All-image, All-rising, and-true, facts-all, All-map}
-use Rattle.laws.specs.Places.{outputs-append, outputs-of-waiting, nodes-same, waiting-none}
-use Rattle.laws.specs.Whole.{well-formed-facts}
-use Rattle.laws.specs.Formed.{Taken, WellFormed, variables-of}
-use Rattle.laws.specs.Images.{records-of-take}
-use Rattle.laws.specs.Reads.{padded-length}
+use Rattle.laws.specs.Records.Words.{both, records-of-image}
+use Rattle.laws.specs.Lists.Facts.{All, All-image, All-rising, and-true, facts-all, All-map}
+use Rattle.laws.specs.Records.Places.{outputs-append, outputs-of-waiting, nodes-same, waiting-none}
+use Rattle.laws.specs.WellFormed.Whole.{well-formed-facts}
+use Rattle.laws.specs.WellFormed.Plain.{Taken, WellFormed, variables-of}
+use Rattle.laws.specs.Records.Images.{records-of-take}
+use Rattle.laws.specs.WellFormed.ToPlain.{padded-length}
 use Rattle.preserve.specs.Starts.{Lent, lent, leaves, accepted-start}
 use Rattle.preserve.specs.Sets.{accepted-set}
 use Rattle.preserve.specs.Given.{Ahead}

@@ -16,10 +16,10 @@ use Rattle.rules.specs.Records.{Record}
 use Rattle.rules.specs.Build.{Build, clause-total, clause-mark, records, unbuilt, tares-of, buckets-of, held, build-over, buildOf}
 use Rattle.rules.specs.WellFormed.{well-formed, not-well-formed}
 use Rattle.rules.specs.Precision.{divisor-coarser, set-refusal, with-set, set-end, set-precision}
-use Rattle.laws.specs.Facts.{not-not}
-use Rattle.laws.specs.Powers.{power-is}
-use Rattle.laws.specs.Formed.{Formed, Laid, WellFormed}
-use Rattle.laws.specs.Whole.{well-formed-facts, facts-well-formed}
+use Rattle.laws.specs.Lists.Facts.{not-not}
+use Rattle.laws.specs.Numbers.Powers.{power-is}
+use Rattle.laws.specs.WellFormed.Plain.{Formed, Laid, WellFormed}
+use Rattle.laws.specs.WellFormed.Whole.{well-formed-facts, facts-well-formed}
 use Rattle.preserve.specs.Starts.{not-first}
 
 -- a lawful divisor, 0 taken as 1, is a power of two

@@ -19,19 +19,19 @@ use Rattle.rules.specs.Queue.{Sorting, queue-run}
 use Rattle.rules.specs.Encode.{encode-refusal, encode}
 use Rattle.rules.specs.Buckets.{build-structure}
 use Rattle.rules.specs.Refinement.{patched}
-use Rattle.laws.specs.Facts.{All, All-map}
-use Rattle.laws.specs.Powers.{below-digits, digits-top, top-bit-below}
-use Rattle.laws.specs.Places.{place, place-inside}
-use Rattle.laws.specs.Formed.{Built, Formed}
-use Rattle.laws.specs.Heights.{heights-below}
-use Rattle.laws.specs.Writes.{power-within, tares-within-19, buckets-within-20}
-use Rattle.laws.specs.Merges.{maxima}
-use Rattle.laws.specs.Runs.{largest-all, steps-keep}
-use Rattle.laws.specs.Gathers.{Gathers, gathers-step, gathers-waits, gathers-members}
-use Rattle.laws.specs.Fills.{gathers-start}
+use Rattle.laws.specs.Lists.Facts.{All, All-map}
+use Rattle.laws.specs.Numbers.Powers.{below-digits, digits-top, top-bit-below}
+use Rattle.laws.specs.Records.Places.{place, place-inside}
+use Rattle.laws.specs.WellFormed.Plain.{Built, Formed}
+use Rattle.laws.specs.Totalizer.Heights.{heights-below}
+use Rattle.laws.specs.WellFormed.ToClauses.{power-within, tares-within-19, buckets-within-20}
+use Rattle.laws.specs.Totalizer.Merges.{maxima}
+use Rattle.laws.specs.Queue.Runs.{largest-all, steps-keep}
+use Rattle.laws.specs.Queue.Gathers.{Gathers, gathers-step, gathers-waits, gathers-members}
+use Rattle.laws.specs.Queue.Fills.{gathers-start}
 use Rattle.preserve.specs.Gathered.{begun}
-use Rattle.preserve.specs.Builds.{first-formed}
-use Rattle.preserve.specs.Refinements.{patched-refined}
+use Rattle.preserve.specs.FirstBuild.{first-formed}
+use Rattle.preserve.specs.RefinementWhole.{patched-refined}
 use Rattle.preserve.specs.Given.{Ahead, set-positive, weights-few, waiting-below, buckets-inside}
 use Rattle.preserve.specs.Encodes.{fresh-ahead, ahead-of, Accepted, accepted, reaches-formed}
 

@@ -14,12 +14,12 @@ use Rattle.rules.specs.Build.{Build, restructured, with-arena, records, unbuilt
 use Rattle.rules.specs.Buckets.{build-structure}
 use Rattle.rules.specs.Refinement.{due, patched, extend-bucket, merge-structures}
 use Rattle.rules.specs.Encode.{prepared, root-values, encode-outputs, divisor-above}
-use Rattle.laws.specs.Words.{both}
-use Rattle.laws.specs.Places.{place, nodes-same, places-same, waiting-none}
-use Rattle.laws.specs.Formed.{Sound, Formed}
-use Rattle.laws.specs.Defines.{Over, over-write, over-take, define-keeps, extend-bucket-keeps}
-use Rattle.preserve.specs.Builds.{first-sound}
-use Rattle.preserve.specs.Refinements.{patched-sound, merged-fresh}
+use Rattle.laws.specs.Records.Words.{both}
+use Rattle.laws.specs.Records.Places.{place, nodes-same, places-same, waiting-none}
+use Rattle.laws.specs.WellFormed.Plain.{Sound, Formed}
+use Rattle.laws.specs.Totalizer.Defines.{Over, over-write, over-take, define-keeps, extend-bucket-keeps}
+use Rattle.preserve.specs.FirstBuild.{first-sound}
+use Rattle.preserve.specs.RefinementWhole.{patched-sound, merged-fresh}
 use Rattle.preserve.specs.Encodes.{encode-fresh, still-built, prepared-cases}
 
 -- every node among the records goes by rule

@@ -17,12 +17,12 @@ use Rattle.rules.specs.Records.{Node, Output, Entry, Record, node, waits, nodeA
 use Rattle.rules.specs.Build.{Build, records, clause-total, clause-mark, clause-words}
 use Rattle.rules.specs.WellFormed.{known, is-node, well-formed}
 use Rattle.rules.specs.Start.{start-no-room, start-refusal, new-build, start, start-end}
-use Rattle.laws.specs.Words.{both}
-use Rattle.laws.specs.Facts.{All, All-map, All-image, All-source, All-rising, neither, not-not, all-facts, total-cong, length-total, occurs, rising-has}
-use Rattle.laws.specs.Places.{place}
-use Rattle.laws.specs.Formed.{Ruled, Defined, Taken, Waits, variables-of, Formed}
-use Rattle.laws.specs.Grows.{ruled-leaf, ruled-dummy}
-use Rattle.laws.specs.Whole.{written}
+use Rattle.laws.specs.Records.Words.{both}
+use Rattle.laws.specs.Lists.Facts.{All, All-map, All-image, All-source, All-rising, neither, not-not, all-facts, total-cong, length-total, occurs, rising-has}
+use Rattle.laws.specs.Records.Places.{place}
+use Rattle.laws.specs.WellFormed.Plain.{Ruled, Defined, Taken, Waits, variables-of, Formed}
+use Rattle.laws.specs.Totalizer.Grows.{ruled-leaf, ruled-dummy}
+use Rattle.laws.specs.WellFormed.Whole.{written}
 
 -- the records and the queue of a new build
 abbrev pub leaves : List ℤ → List Record

@@ -14,8 +14,8 @@ use Rattle.rules.specs.Lists.{padded}
 use Rattle.rules.specs.Records.{Record, record-image, imageOf, recordsOf}
 use Rattle.rules.specs.Totalizer.{Arena}
 use Rattle.rules.specs.Build.{clause-words}
-use Rattle.laws.specs.Words.{record-image-length, image-length}
-use Rattle.laws.specs.Whole.{records-length}
+use Rattle.laws.specs.Records.Words.{record-image-length, image-length}
+use Rattle.laws.specs.WellFormed.Whole.{records-length}
 use Rattle.records.specs.declared.Marks.{Marks}
 use Rattle.records.specs.Words.{put-record}
 use Rattle.records.specs.Carries.{St, st, storeOf, bufferOf, marksOf, laid, written, peak, Fits, Holds, Carries, Steps, Makes, Lent, read-arena}

@@ -9,7 +9,7 @@ use lib.Seq.{sets, sets-eq, take-append-seam, drop-append-add, drop-drop, take-s
 use lib.IntN.{ℤ, pos}
 use Rattle.rules.specs.Records.{Record, unknown, record-image, imageOf}
 use Rattle.rules.specs.Build.{clause-words}
-use Rattle.laws.specs.Words.{record-image-length}
+use Rattle.laws.specs.Records.Words.{record-image-length}
 use Rattle.records.specs.Words.{put-word}
 use Rattle.records.specs.Carries.{laid}
 

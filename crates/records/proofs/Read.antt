@@ -10,7 +10,7 @@ use lib.Seq.{getD-take}
 use borrow.Author.Tests.{ltb-true, ltb-false, lt-ltb, eqb-true, eqb-false, ne-eqb}
 use lib.IntN.{ℤ, pos}
 use Rattle.rules.specs.Records.{Kind, leaf, join, dummy, Output, Entry, literal-word, Record, node, output, waiting, unknown, node-image, record-image, node-of, nodeAt, dummy-node, left-link, right-link, waits}
-use Rattle.laws.specs.Words.{image-length}
+use Rattle.laws.specs.Records.Words.{image-length}
 use Rattle.records.specs.declared.Fields.{Fields}
 use Rattle.records.specs.Words.{field-at, fields}
 use Rattle.records.specs.Carries.{Stores, size, is-join, is-halved}

@@ -10,10 +10,10 @@ use Rattle.rules.specs.Lists.{same}
 use Rattle.rules.specs.Numbers.{capacity}
 use Rattle.rules.specs.Totalizer.{Arena}
 use Rattle.rules.specs.Records.{Node, Record, unknown, node-of, nodeAt, dummy-node, record-image, reading, recordOf, recordsOf}
-use Rattle.laws.specs.Words.{same-true}
-use Rattle.laws.specs.Places.{place, nodeAt-none}
-use Rattle.laws.specs.Formed.{Sound}
-use Rattle.laws.specs.Heights.{heights-below}
+use Rattle.laws.specs.Records.Words.{same-true}
+use Rattle.laws.specs.Records.Places.{place, nodeAt-none}
+use Rattle.laws.specs.WellFormed.Plain.{Sound}
+use Rattle.laws.specs.Totalizer.Heights.{heights-below}
 use Rattle.records.specs.Carries.{St, storeOf, bufferOf, written, size, peak, Fits}
 use Rattle.records.proofs.Read.{size-words}
 

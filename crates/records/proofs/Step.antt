@@ -11,7 +11,7 @@ use lib.IntN.{ℤ}
 use Rattle.rules.specs.Records.{imageOf}
 use Rattle.rules.specs.Totalizer.{Arena}
 use Rattle.rules.specs.Build.{clause-words}
-use Rattle.laws.specs.Words.{image-length}
+use Rattle.laws.specs.Records.Words.{image-length}
 use Rattle.records.specs.declared.Marks.{Marks}
 use Rattle.records.specs.Words.{full-of}
 use Rattle.records.specs.Carries.{St, st, storeOf, bufferOf, marksOf, laid, written, Fits, Holds, Carries, Steps, Makes, Stores}

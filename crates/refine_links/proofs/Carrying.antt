@@ -7,7 +7,7 @@ use lib.ListN.{length}
 use lib.IntN.{ℤ}
 use Rattle.rules.specs.Totalizer.{Arena}
 use Rattle.rules.specs.Refinement.{relink}
-use Rattle.laws.specs.Facts.{All, occurs}
+use Rattle.laws.specs.Lists.Facts.{All, occurs}
 use Rattle.records.specs.declared.Marks.{Marks}
 use Rattle.records.specs.Carries.{St, st, storeOf, marksOf, Fits, Holds, Carries, with-records}
 use Rattle.records.proofs.Step.{going}

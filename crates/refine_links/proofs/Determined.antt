@@ -17,7 +17,7 @@ use denote.Triple.Entry.{Args, Res}
 use contract.Lifetimes.{Lfts}
 use contract.Monad.{Fun, fact}
 use Rattle.rules.specs.Records.{Record}
-use Rattle.laws.specs.Facts.{All, occurs}
+use Rattle.laws.specs.Lists.Facts.{All, occurs}
 use Rattle.records.specs.Carries.{Stores}
 use Rattle.refine_links.specs.Linked.{Lies, Relinks}
 use Rattle.refine_links.specs.declared.Bucket.{Bucket}

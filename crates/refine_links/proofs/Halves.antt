@@ -7,7 +7,7 @@ use lib.ListN.{length, getD, set, take, drop, replicate}
 use lib.Seq.{take-suc, take-suc-set, drop-set-lt, drop-drop}
 use Rattle.rules.specs.Records.{Record, nodeAt, right-link}
 use Rattle.rules.specs.Refinement.{former-half}
-use Rattle.laws.specs.Facts.{map-append}
+use Rattle.laws.specs.Lists.Facts.{map-append}
 
 pub half-is : (rs : List Record) (b r x : ℕ) → r ≡ right-link (nodeAt rs b .kind) → x ≡ nodeAt rs r .maximum → x / 2 ≡ former-half rs b
 unfolding former-half

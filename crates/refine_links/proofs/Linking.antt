@@ -12,9 +12,9 @@ use borrow.Author.Tests.{ltb-true, ltb-false}
 use Rattle.rules.specs.Records.{Record, node, node-of, nodeAt, left-link, node-image, record-image, imageOf}
 use Rattle.rules.specs.Totalizer.{counts, joining}
 use Rattle.rules.specs.Refinement.{relink}
-use Rattle.laws.specs.Facts.{All, All-map, All-self, occurs, occurs-here, occurs-append, occurs-none}
-use Rattle.laws.specs.Keeps.{All-reverse}
-use Rattle.laws.specs.Words.{image-length}
+use Rattle.laws.specs.Lists.Facts.{All, All-map, All-self, occurs, occurs-here, occurs-append, occurs-none}
+use Rattle.laws.specs.WellFormed.Keeps.{All-reverse}
+use Rattle.laws.specs.Records.Words.{image-length}
 use Rattle.records.specs.Words.{put-record}
 use Rattle.records.specs.Carries.{Stores, size, peak}
 use Rattle.records.proofs.Lay.{laid-front}

@@ -12,8 +12,8 @@ use borrow.Author.Tests.{ltb-true, ltb-false}
 use Rattle.rules.specs.Records.{Node, Record, node, unknown, node-of, outputs}
 use Rattle.rules.specs.WellFormed.{is-node}
 use Rattle.rules.specs.Refinement.{relink}
-use Rattle.laws.specs.Facts.{All, All-map, occurs, occurs-here, occurs-more}
-use Rattle.laws.specs.Places.{place, place-set, outputs-set}
+use Rattle.laws.specs.Lists.Facts.{All, All-map, occurs, occurs-here, occurs-more}
+use Rattle.laws.specs.Records.Places.{place, place-set, outputs-set}
 use Rattle.records.specs.Carries.{size, peak}
 use Rattle.refine_links.specs.Linked.{renewed, linked}
 

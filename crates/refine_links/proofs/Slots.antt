@@ -5,7 +5,7 @@ use Prim.Native.Nat.{ℕ, zero, suc, _≤_, _<_}
 use native.Mathlib.Omega.{arith}
 use lib.ListN.{length, getD, take}
 use lib.Seq.{getD-take, length-take-le}
-use Rattle.laws.specs.Facts.{All, All-self, occurs}
+use Rattle.laws.specs.Lists.Facts.{All, All-self, occurs}
 
 All-at : (P : ℕ → Type 0) (xs : List ℕ) (i : ℕ) → i < length xs → All P xs → P (getD xs i 0)
 All-at P [] i h a = absurd (omega arith)

@@ -7,7 +7,7 @@ use lib.ListN.{length, getD, set}
 use Rattle.rules.specs.Records.{Node, Record, node, nodeAt, left-link, imageOf}
 use Rattle.rules.specs.Totalizer.{joining}
 use Rattle.rules.specs.Refinement.{relink}
-use Rattle.laws.specs.Facts.{All, occurs}
+use Rattle.laws.specs.Lists.Facts.{All, occurs}
 use Rattle.records.specs.Carries.{laid, size, peak}
 
 -- the words lie over s₀ as the image of rs, whose maxima and heights fit a word

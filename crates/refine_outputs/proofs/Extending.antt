@@ -13,8 +13,8 @@ use Rattle.rules.specs.Lists.{keep, in-turn}
 use Rattle.rules.specs.Records.{Record, node, output, waiting, unknown, Output, outputs, literal-word, record-image}
 use Rattle.rules.specs.Totalizer.{Arena, write, take-number}
 use Rattle.rules.specs.Refinement.{former-half, extend, extend-bucket}
-use Rattle.laws.specs.Defines.{extend-keeps}
-use Rattle.laws.specs.Places.{outputs-append}
+use Rattle.laws.specs.Totalizer.Defines.{extend-keeps}
+use Rattle.laws.specs.Records.Places.{outputs-append}
 use Rattle.records.specs.declared.Marks.{Marks}
 use Rattle.records.specs.Words.{field-at}
 use Rattle.records.specs.Carries.{St, st, marksOf, Carries, Steps}

@@ -9,8 +9,8 @@ use lib.IntN.{ℤ}
 use Rattle.rules.specs.Records.{imageOf}
 use Rattle.rules.specs.Totalizer.{Arena}
 use Rattle.rules.specs.Build.{clause-words}
-use Rattle.laws.specs.Facts.{occurs}
-use Rattle.laws.specs.Words.{image-length}
+use Rattle.laws.specs.Lists.Facts.{occurs}
+use Rattle.laws.specs.Records.Words.{image-length}
 use Rattle.records.specs.declared.Marks.{Marks}
 use Rattle.records.specs.Carries.{St, storeOf, marksOf, laid, written, Fits, Holds, Carries}
 use Rattle.refine_structure.specs.Based.{Based}

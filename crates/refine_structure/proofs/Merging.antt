@@ -15,13 +15,13 @@ use Rattle.rules.specs.Records.{Entry, Output, Record, outputs}
 use Rattle.rules.specs.Totalizer.{Arena}
 use Rattle.rules.specs.Build.{Build, largest, tares-of, buckets-of, build-over, buildOf}
 use Rattle.rules.specs.Refinement.{former-half, tares-left-out, merge-structures}
-use Rattle.laws.specs.Facts.{All, All-map, All-append, All-second, All-rising, rising-length}
-use Rattle.laws.specs.Formed.{Built, Formed}
-use Rattle.laws.specs.Reads.{slots-count}
-use Rattle.laws.specs.Runs.{largest-sort}
-use Rattle.laws.specs.Writes.{power-within}
+use Rattle.laws.specs.Lists.Facts.{All, All-map, All-append, All-second, All-rising, rising-length}
+use Rattle.laws.specs.WellFormed.Plain.{Built, Formed}
+use Rattle.laws.specs.WellFormed.ToPlain.{slots-count}
+use Rattle.laws.specs.Queue.Runs.{largest-sort}
+use Rattle.laws.specs.WellFormed.ToClauses.{power-within}
 use Rattle.preserve.specs.Given.{set-positive, weights-few, waiting-below}
-use Rattle.preserve.specs.Refines.{q}
+use Rattle.preserve.specs.Refinement.{q}
 use Rattle.records.specs.declared.Marks.{Marks}
 use Rattle.records.specs.Carries.{St, st, Stores, Fits, Carries, Makes}
 use Rattle.build_line.specs.Work.{line, members-from, made-in}

@@ -11,10 +11,10 @@ use Rattle.rules.specs.Lists.{in-turn}
 use Rattle.rules.specs.Records.{Record, outputs, imageOf}
 use Rattle.rules.specs.Totalizer.{Arena}
 use Rattle.rules.specs.Refinement.{relink, former-half, extend-bucket}
-use Rattle.laws.specs.Facts.{All, All-map, occurs, occurs-none}
-use Rattle.laws.specs.Places.{place, place-inside}
-use Rattle.laws.specs.Keeps.{All-reverse}
-use Rattle.laws.specs.Words.{image-length}
+use Rattle.laws.specs.Lists.Facts.{All, All-map, occurs, occurs-none}
+use Rattle.laws.specs.Records.Places.{place, place-inside}
+use Rattle.laws.specs.WellFormed.Keeps.{All-reverse}
+use Rattle.laws.specs.Records.Words.{image-length}
 use Rattle.records.specs.declared.Marks.{Marks}
 use Rattle.records.specs.Words.{full-of}
 use Rattle.records.specs.Carries.{St, st, laid, Fits, Holds, Carries, with-records}

@@ -16,17 +16,17 @@ use Rattle.rules.specs.Build.{Build, restructured, with-arena, largest, some-wa
 use Rattle.rules.specs.Queue.{heavier, Sorting, queue-run, gathered}
 use Rattle.rules.specs.Buckets.{buckets-over}
 use Rattle.rules.specs.Refinement.{relink, former-half, extend-bucket, tares-left-out, patched, merge-structures}
-use Rattle.laws.specs.Facts.{All-map, occurs, occurs-here, occurs-other, rising-length}
-use Rattle.laws.specs.Places.{place}
-use Rattle.laws.specs.Formed.{Sound, Linked, Built, Formed}
-use Rattle.laws.specs.Grows.{Grown, grown-then, grown-length, grown-place}
-use Rattle.laws.specs.Runs.{largest-sort}
-use Rattle.laws.specs.Powers.{top-bit-least}
-use Rattle.laws.specs.Climbs.{linked-once, linked-rest}
-use Rattle.laws.specs.Towers.{Tower}
+use Rattle.laws.specs.Lists.Facts.{All-map, occurs, occurs-here, occurs-other, rising-length}
+use Rattle.laws.specs.Records.Places.{place}
+use Rattle.laws.specs.WellFormed.Plain.{Sound, Linked, Built, Formed}
+use Rattle.laws.specs.Totalizer.Grows.{Grown, grown-then, grown-length, grown-place}
+use Rattle.laws.specs.Queue.Runs.{largest-sort}
+use Rattle.laws.specs.Numbers.Powers.{top-bit-least}
+use Rattle.laws.specs.Refinement.Relinks.{linked-once, linked-rest}
+use Rattle.laws.specs.Buckets.Towers.{Tower}
 use Rattle.preserve.specs.Given.{set-positive, waiting-below, buckets-there, buckets-inside}
 use Rattle.preserve.specs.Gathered.{Gathered, begun, gathered-made}
-use Rattle.preserve.specs.Refines.{p, end, k, q, wait, mss, new-tares, built-tower}
+use Rattle.preserve.specs.Refinement.{p, end, k, q, wait, mss, new-tares, built-tower}
 use Rattle.records.specs.Words.{word-at}
 use Rattle.records.specs.Carries.{St, written, Fits, with-records}
 use Rattle.records.proofs.Grow.{fits-less}

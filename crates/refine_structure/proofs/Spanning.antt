@@ -8,8 +8,8 @@ use lib.IntN.{ℤ}
 use Rattle.rules.specs.declared.State.{State}
 use Rattle.rules.specs.Digits.{top-bit}
 use Rattle.rules.specs.Build.{largest}
-use Rattle.laws.specs.Facts.{All}
-use Rattle.laws.specs.Keeps.{All-take}
+use Rattle.laws.specs.Lists.Facts.{All}
+use Rattle.laws.specs.WellFormed.Keeps.{All-take}
 use Rattle.records.specs.declared.Marks.{Marks}
 use Rattle.records.specs.Carries.{st, Makes}
 use Rattle.build_line.specs.Work.{line, members-from, made-in}

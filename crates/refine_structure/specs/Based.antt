@@ -3,7 +3,7 @@ use mathlib.Core.Path.{_≡_}
 use mathlib.Core.List.{List}
 use Prim.Native.Nat.{ℕ, _*_, _/_, _<_}
 use lib.ListN.{length, getD, drop}
-use Rattle.laws.specs.Facts.{occurs}
+use Rattle.laws.specs.Lists.Facts.{occurs}
 use Rattle.records.specs.Carries.{St, storeOf, bufferOf, marksOf}
 
 -- e′ is e but for the words of the buckets' records and those of its other records below n

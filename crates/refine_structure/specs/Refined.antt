@@ -14,9 +14,9 @@ use Rattle.rules.specs.Totalizer.{Arena}
 use Rattle.rules.specs.Build.{Build, largest, buildOf}
 use Rattle.rules.specs.Queue.{heavier}
 use Rattle.rules.specs.Refinement.{relink, former-half, extend-bucket, merge-structures}
-use Rattle.laws.specs.Facts.{All, occurs}
-use Rattle.laws.specs.Places.{place}
-use Rattle.laws.specs.Formed.{WellFormed}
+use Rattle.laws.specs.Lists.Facts.{All, occurs}
+use Rattle.laws.specs.Records.Places.{place}
+use Rattle.laws.specs.WellFormed.Plain.{WellFormed}
 use Rattle.records.specs.declared.Marks.{Marks}
 use Rattle.records.specs.Carries.{St, Fits, Carries, with-records}
 use Rattle.build_line.specs.Work.{line, count-at}

@@ -9,7 +9,7 @@ ghost use Rattle.rules.specs.Digits.{top-bit};
 ghost use Rattle.rules.specs.Records.{Record};
 ghost use Rattle.rules.specs.Totalizer.{Arena};
 ghost use Rattle.rules.specs.Build.{largest, buildOf};
-ghost use Rattle.laws.specs.Facts.{All};
+ghost use Rattle.laws.specs.Lists.Facts.{All};
 ghost use Rattle.records.specs.declared.Marks.{Marks};
 ghost use Rattle.records.specs.Carries.{st, Makes};
 ghost use Rattle.build_line.specs.Work.{line, members-from, made-in};

@@ -13,8 +13,8 @@ use Rattle.rules.specs.Numbers.{lawful, lawful-weight, capacity}
 use Rattle.rules.specs.Records.{literal-word, word-literal}
 use Rattle.rules.specs.Refusals.{first-of, lists-differ, literal-unlawful, literal-twice, weight-unlawful, fresh-unlawful}
 use Rattle.rules.specs.Start.{start-no-room, start-refusal}
-use Rattle.laws.specs.Facts.{not-not, neither}
-use Rattle.laws.specs.Words.{both, literal-word-literal}
+use Rattle.laws.specs.Lists.Facts.{not-not, neither}
+use Rattle.laws.specs.Records.Words.{both, literal-word-literal}
 use Rattle.numbers.specs.Signed.{word-or-none}
 use Rattle.start_lists.specs.Literals.{words}
 

@@ -7,7 +7,7 @@ use native.Mathlib.Omega.{arith}
 use lib.IntN.{ℤ, pos}
 use Rattle.rules.specs.Records.{Record, literal-word, word-literal}
 use Rattle.rules.specs.Totalizer.{Arena, asks, pairs-from, side, clause, write, take-number}
-use Rattle.laws.specs.Words.{literal-word-literal}
+use Rattle.laws.specs.Records.Words.{literal-word-literal}
 use Rattle.records.specs.declared.Marks.{Marks}
 use Rattle.records.specs.Words.{side-of, full-of}
 use Rattle.records.specs.Carries.{St, st, Steps, Stores, with-clause, clause-of}

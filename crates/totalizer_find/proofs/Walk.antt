@@ -11,7 +11,7 @@ use lib.IntN.{ℤ, pos, negℤ}
 use borrow.Author.Tests.{eq-eqb, ne-eqb, eqb-true, eqb-false}
 use Rattle.rules.specs.Records.{Kind, leaf, join, dummy, Record, node, output, waiting, unknown, node-of, nodeAt, node-image, record-image, literal-word, word-literal, outputs}
 use Rattle.rules.specs.Totalizer.{number-in, number-of, literal-of, side}
-use Rattle.laws.specs.Words.{literal-word-literal, word-not-one}
+use Rattle.laws.specs.Records.Words.{literal-word-literal, word-not-one}
 use Rattle.numbers.proofs.Literals.{word-literal-word}
 use Rattle.records.specs.Words.{field-at, side-of}
 use Rattle.records.specs.Carries.{Stores}

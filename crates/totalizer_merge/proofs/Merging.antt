@@ -8,7 +8,7 @@ use lib.ListN.{length, getD, take, drop, length-drop}
 use lib.Seq.{length-take-le, take-all}
 use Rattle.rules.specs.Records.{Record}
 use Rattle.rules.specs.Totalizer.{Arena, joining, add, merge-by, merge}
-use Rattle.laws.specs.Merges.{merge-fuel}
+use Rattle.laws.specs.Totalizer.Merges.{merge-fuel}
 use Rattle.records.specs.Carries.{St, Makes, on-records, with-records}
 use Rattle.records.proofs.Grow.{Grows, grows-self, grows-trans}
 use Rattle.records.proofs.Step.{makes-none, makes-same, makes-then}

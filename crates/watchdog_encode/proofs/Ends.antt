@@ -14,7 +14,7 @@ use Rattle.rules.specs.Refusals.{first-of}
 use Rattle.rules.specs.Build.{Build, records, clause-words, clause-mark, buildOf, build-over}
 use Rattle.rules.specs.WellFormed.{well-formed, not-well-formed}
 use Rattle.rules.specs.Encode.{nothing-asked, encode, nothing-done, work-short, divisor-above, no-room, encode-refusal, untouched, no-room-end, encoded-end, encode-end, encode-ub-change}
-use Rattle.laws.specs.Formed.{WellFormed}
+use Rattle.laws.specs.WellFormed.Plain.{WellFormed}
 use Rattle.encode_begin.proofs.Begin.{all-count}
 
 module _ (s : State) (store : List ℕ) (clauses : List ℤ) (work : List ℕ) (lo end : ℕ) where

@@ -19,11 +19,11 @@ use Rattle.rules.specs.Build.{Build, records, clause-words, clause-total, claus
 use Rattle.rules.specs.Buckets.{build-structure}
 use Rattle.rules.specs.Refinement.{patched, merge-structures}
 use Rattle.rules.specs.Encode.{EncodeEnd, prepared, encode-outputs, nothing-asked, encode, nothing-done, divisor-above, no-room, encoded, untouched, no-room-end, encoded-end, encode-ub-change}
-use Rattle.laws.specs.Facts.{All, All-map}
-use Rattle.laws.specs.Formed.{WellFormed}
-use Rattle.laws.specs.Whole.{well-formed-facts}
+use Rattle.laws.specs.Lists.Facts.{All, All-map}
+use Rattle.laws.specs.WellFormed.Plain.{WellFormed}
+use Rattle.laws.specs.WellFormed.Whole.{well-formed-facts}
 use Rattle.preserve.specs.Given.{buckets-inside}
-use Rattle.preserve.specs.Refinements.{merged-fresh}
+use Rattle.preserve.specs.RefinementWhole.{merged-fresh}
 use Rattle.preserve.specs.Encodes.{encode-fresh, prepared-cases}
 use Rattle.preserve.specs.Sounds.{encode-sound}
 use Rattle.records.specs.Carries.{St, st, written, Fits, Holds, Stores, with-records}

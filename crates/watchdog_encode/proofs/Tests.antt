@@ -17,9 +17,9 @@ use Rattle.rules.specs.Build.{Build, buildOf, build-over, unbuilt, largest, roo
 use Rattle.rules.specs.Buckets.{build-structure}
 use Rattle.rules.specs.Refinement.{due, patched, merge-structures}
 use Rattle.rules.specs.Encode.{prepared, root-values, encode-outputs, nothing-asked, encode, nothing-done, divisor-above, no-room}
-use Rattle.laws.specs.Facts.{neither}
-use Rattle.laws.specs.Places.{nodes-same, waiting-none, outputs-append, outputs-of-waiting}
-use Rattle.laws.specs.Formed.{WellFormed}
+use Rattle.laws.specs.Lists.Facts.{neither}
+use Rattle.laws.specs.Records.Places.{nodes-same, waiting-none, outputs-append, outputs-of-waiting}
+use Rattle.laws.specs.WellFormed.Plain.{WellFormed}
 use Rattle.preserve.specs.Given.{set-positive, waiting-below}
 use Rattle.preserve.specs.Encodes.{root-join}
 use Rattle.records.specs.Carries.{Stores}

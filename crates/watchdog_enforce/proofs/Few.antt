@@ -14,8 +14,8 @@ use Rattle.rules.specs.Totalizer.{number-of, literal-of}
 use Rattle.rules.specs.Build.{Build, buildOf, unbuilt, output-weight, root, root-node, largest}
 use Rattle.rules.specs.WellFormed.{well-formed}
 use Rattle.rules.specs.Enforce.{EnforceEnd, set-tares, output-answer, root-answer, built-answer, one-answer, enforce, refused-end, scratch-short, enforce-end, enforce-ub}
-use Rattle.laws.specs.Whole.{well-formed-facts}
-use Rattle.laws.specs.Writes.{tares-within-19}
+use Rattle.laws.specs.WellFormed.Whole.{well-formed-facts}
+use Rattle.laws.specs.WellFormed.ToClauses.{tares-within-19}
 
 abbrev Few : Option (List ℤ) → Type 0
 Few none = Unit {0}

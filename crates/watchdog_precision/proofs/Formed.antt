@@ -8,9 +8,9 @@ use lib.ListN.{length}
 use Rattle.rules.specs.declared.State.{State}
 use Rattle.rules.specs.Build.{held, tares-of}
 use Rattle.rules.specs.WellFormed.{well-formed}
-use Rattle.laws.specs.Formed.{WellFormed}
-use Rattle.laws.specs.Whole.{well-formed-facts}
-use Rattle.laws.specs.Reads.{slots-count}
+use Rattle.laws.specs.WellFormed.Plain.{WellFormed}
+use Rattle.laws.specs.WellFormed.Whole.{well-formed-facts}
+use Rattle.laws.specs.WellFormed.ToPlain.{slots-count}
 use Rattle.records.specs.Carries.{Stores}
 use Rattle.precision_steps.proofs.Whole.{readable}
 

@@ -16,7 +16,7 @@ use Rattle.rules.specs.Totalizer.{Arena}
 use Rattle.rules.specs.Refusals.{answer-of}
 use Rattle.rules.specs.Build.{records, stateOf, clause-words, clause-mark, clause-total, variable-total}
 use Rattle.rules.specs.Start.{new-build, zero-state, start-refusal, start-end, start}
-use Rattle.laws.specs.Facts.{and-true, facts-all}
+use Rattle.laws.specs.Lists.Facts.{and-true, facts-all}
 use Rattle.preserve.specs.Starts.{Lent as Lent-lists, lent}
 use Rattle.records.specs.declared.Marks.{Marks}
 use Rattle.records.specs.Carries.{St, st, Fits, Carries, Steps, Lent, written, peak, read-arena, with-records}

@@ -13,7 +13,7 @@ use Rattle.rules.specs.Lists.{all, total, rising}
 use Rattle.rules.specs.Numbers.{lawful, lawful-weight}
 use Rattle.rules.specs.Records.{Record, node-of, node, waiting, unknown, leaf-node, literal-word}
 use Rattle.rules.specs.Totalizer.{Arena, add}
-use Rattle.laws.specs.Words.{both}
+use Rattle.laws.specs.Records.Words.{both}
 use Rattle.numbers.specs.Signed.{signed-at, word-or-none}
 use Rattle.records.specs.Carries.{St, Steps, Makes, with-records, with-record, on-records, peak, size}
 use Rattle.records.proofs.Step.{steps-none, steps-then, steps-same, makes-steps}

@@ -9,7 +9,7 @@ use Rattle.check_arrays.proofs.Walk.{fail-here, pass-here}
 use Rattle.check_well_formed.specs.Groups.{state-right}
 use Rattle.check_well_formed.proofs.Regroup.{regroup}
 use Rattle.check_well_formed.proofs.Ways.{stores-held, marks-room}
-use Rattle.laws.specs.Words.{both}
+use Rattle.laws.specs.Records.Words.{both}
 use Rattle.check_well_formed.proofs.well_formed.Statement.{statement}
 use Rattle.check_well_formed.proofs.well_formed.Tie as tie
 

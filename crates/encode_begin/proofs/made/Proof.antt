@@ -7,7 +7,7 @@ use native.Mathlib.Omega.{arith}
 use borrow.Author.Needs.{needs}
 use lib.ListN.{length}
 use Rattle.rules.specs.Records.{Record, Entry, waiting, waits}
-use Rattle.laws.specs.Facts.{All}
+use Rattle.laws.specs.Lists.Facts.{All}
 use Rattle.records.specs.Carries.{Stores}
 use Rattle.encode_begin.proofs.Found.{made-on, made-here, made-end}
 use Rattle.encode_begin.proofs.made.Statement.{statement}

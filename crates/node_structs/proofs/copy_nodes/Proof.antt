@@ -328,5 +328,5 @@ copy-nodes-spec 𝓤 H 𝓜 𝓖 𝓡 =
     entered 𝓤 H (tripleOf 𝓤 H (𝓖 .A) f.signature (f.spec 𝓤 H (𝓖 .A) (𝓜 .mem) (𝓡 .run)))
     (tables 𝓤 H 𝓜 𝓡 code.env .C) (tables 𝓤 H 𝓜 𝓡 code.env .Λ) #nodes·copy-nodes code.function (code.unfolded 𝓤 H 𝓜 𝓡)
     (f-meets 𝓤 H (𝓖 .A) (givenOf 𝓤 H 𝓜 𝓖) (𝓜 .mem) (𝓡 .run) (tablesOf 𝓤 H 𝓜 (tables 𝓤 H 𝓜 𝓡 code.env))
-    (cited 𝓤 H (Fitting 𝓤 H (𝓖 .A) (𝓜 .mem) (𝓡 .run)) 𝓜 𝓡 code.env #nodes·fitting fitting-def.routine code.calls-watchdog-nodes·fitting (fitting-thm.met 𝓤 H 𝓜 𝓖 𝓡))
-    (cited 𝓤 H (Stored 𝓤 H (𝓖 .A) (𝓜 .mem) (𝓡 .run)) 𝓜 𝓡 code.env #nodes·stored stored-def.routine code.calls-watchdog-nodes·stored (stored-thm.met 𝓤 H 𝓜 𝓖 𝓡)))
+    (cited 𝓤 H (Fitting 𝓤 H (𝓖 .A) (𝓜 .mem) (𝓡 .run)) 𝓜 𝓡 code.env #nodes·fitting fitting-def.routine code.calls-node-structs·fitting (fitting-thm.met 𝓤 H 𝓜 𝓖 𝓡))
+    (cited 𝓤 H (Stored 𝓤 H (𝓖 .A) (𝓜 .mem) (𝓡 .run)) 𝓜 𝓡 code.env #nodes·stored stored-def.routine code.calls-node-structs·stored (stored-thm.met 𝓤 H 𝓜 𝓖 𝓡)))

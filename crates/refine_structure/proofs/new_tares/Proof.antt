@@ -1,5 +1,5 @@
 -- `new_tares` puts the state's tares behind the new ones.
-use Rattle.laws.specs.Facts.{rising-length}
+use Rattle.laws.specs.Lists.Facts.{rising-length}
 use borrow.Author.Needs.{needs}
 use Rattle.refine_structure.proofs.new_tares.Statement.{statement}
 use Rattle.refine_structure.proofs.new_tares.Tie as tie

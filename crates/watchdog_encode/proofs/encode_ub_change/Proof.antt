@@ -4,7 +4,7 @@ use borrow.Author.Tests.{not-true, not-false}
 use Rattle.rules.specs.Refusals.{answer-of}
 use Rattle.rules.specs.Build.{buildOf}
 use Rattle.rules.specs.Encode.{encoded}
-use Rattle.laws.specs.Whole.{well-formed-facts}
+use Rattle.laws.specs.WellFormed.Whole.{well-formed-facts}
 use Rattle.watchdog_encode.proofs.Ends.{refused-12, refused-6, refused-10}
 use Rattle.watchdog_encode.proofs.Tests.{asked-range, idle-fits}
 use Rattle.watchdog_encode.proofs.Finals.{plain-end, unasked, idled}

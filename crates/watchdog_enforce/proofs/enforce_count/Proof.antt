@@ -2,7 +2,7 @@
 use mathlib.Core.Path.{sym, ap, _∙_}
 use borrow.Author.Needs.{needs}
 use borrow.Author.Tests.{not-true, not-false}
-use Rattle.laws.specs.Whole.{well-formed-facts}
+use Rattle.laws.specs.WellFormed.Whole.{well-formed-facts}
 use Rattle.enforce_answer.specs.declared.Answered.{Answered}
 use Rattle.enforce_answer.specs.Ends.{answered}
 use Rattle.precision_steps.proofs.Whole.{readable}

@@ -1,0 +1,4 @@
+-- What accepted calls lead to.
+pub mod Clauses
+pub mod Worlds
+pub mod Reached

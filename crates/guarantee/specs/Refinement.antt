@@ -1,0 +1,6 @@
+-- What a refinement keeps.
+pub mod Patching
+pub mod Extending
+pub mod Weights
+pub mod Whole
+pub mod Keeps

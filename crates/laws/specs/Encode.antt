@@ -1,0 +1,2 @@
+-- Encode appends.
+pub mod Appends
