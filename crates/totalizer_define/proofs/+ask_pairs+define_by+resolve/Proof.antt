@@ -150,11 +150,7 @@ ask-pairs-loop-again :
     ask-pairs.Post
     ask-pairs-Inv-loop
     ask-pairs-μ-loop
-ask-pairs-loop-again t c =
-    let resolve2 = c .before .before .before .resolve2 in
-    let resolve = c .before .before .before .before .before .before .before .before .before .resolve in
-    let loop = c .before .before .before .before .before .before .before .before .before .before .before .before .before .loop in
-    (λ i. asks-turn _ _ _ _ _ _ _ _ _ _ _ _ (c .before .before .before .before .before .before .before .before .before .before .before .before .loop-test .taken) (resolve .ensures (asks-whole _ (omega arith))) (resolve2 .ensures (asks-later _ _ _ _ (loop .inv .2) i)) (loop .inv .0 i), omega arith, omega arith, resolve2 .kept .0 ∙ (resolve .kept .0 ∙ loop .inv .3), resolve2 .kept .1 .0 ∙ (resolve .kept .1 .0 ∙ loop .inv .4))
+ask-pairs-loop-again t c = (λ i. asks-turn _ _ _ _ _ _ _ _ _ _ _ _ (c .before .before .before .before .before .before .before .before .before .before .before .before .loop-test .taken) (c .before .before .before .before .before .before .before .before .before .resolve .ensures (asks-whole _ (omega arith))) (c .before .before .before .resolve2 .ensures (asks-later _ _ _ _ (c .before .before .before .before .before .before .before .before .before .before .before .before .before .loop .inv .2) i)) (c .before .before .before .before .before .before .before .before .before .before .before .before .before .loop .inv .0 i), omega arith, omega arith, c .before .before .before .resolve2 .kept .0 ∙ (c .before .before .before .before .before .before .before .before .before .resolve .kept .0 ∙ c .before .before .before .before .before .before .before .before .before .before .before .before .before .loop .inv .3), c .before .before .before .resolve2 .kept .1 .0 ∙ (c .before .before .before .before .before .before .before .before .before .resolve .kept .1 .0 ∙ c .before .before .before .before .before .before .before .before .before .before .before .before .before .loop .inv .4))
 
 ask-pairs-same-length :
     (t : ℕ) →
