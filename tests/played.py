@@ -6,7 +6,7 @@ from digests import digest
 import reference as ref
 
 CRATES = Path(__file__).resolve().parent.parent / "crates"
-TEXT = 65_536
+TEXT = 131_072
 WORK = ref.WORK_WORDS
 SCRATCH = 20
 
@@ -45,6 +45,8 @@ class Play:
     def inputs(self, lits, weights):
         for literal, weight in zip(lits, weights):
             self.line("i", literal, weight)
+        for literal in lits[len(weights) :]:
+            self.line("x", literal)
         self.lits, self.weights = self.lits + list(lits), self.weights + list(weights)
 
     def lend(self, store_words, clause_words, work_words=WORK):
@@ -202,14 +204,14 @@ def texts(crate, play):
 
 
 def write_or_check(files):
-    """Writes these texts by file, or with --check says whether each file has its text; the exit status."""
+    """Says whether each of these files has its text, or with --write writes them; the exit status."""
     words = sys.argv[1:]
-    if words not in ([], ["--check"]):
-        print(f"{sys.argv[0]}: it takes --check or nothing, and was given: {' '.join(words)}", file=sys.stderr)
+    if words not in ([], ["--write"]):
+        print(f"{sys.argv[0]}: it takes --write or nothing, and was given: {' '.join(words)}", file=sys.stderr)
         return 2
     right = True
     for file, text in files:
-        if not words:
+        if words:
             file.write_text(text)
         agrees = file.is_file() and file.read_text() == text
         right = right and agrees

@@ -3,6 +3,7 @@
 //
 //     # TITLE         a new history: no inputs, the zero state; the line is printed
 //     i LITERAL W     one more input with weight W
+//     x LITERAL       one more literal, to which no weight is named
 //     l STORE C WORK  how many words of the store, the clause buffer and the work slice the calls from here on are lent
 //     f W             W in every lent word past the marks and in every word of the work slice
 //     a PLACE W       W in one word of the store
@@ -27,13 +28,15 @@ use rules::Coarse;
 use rules::Maximum;
 use rules::Precision;
 use rules::State;
+ghost use mathlib.Core.Path.{_≡_};
 ghost use Prim.Native.Nat.{_<_, _≤_};
 ghost use lib.ListN.{length};
 
-// What a history has come to: the state, how many inputs were named, how many words are lent.
+// What a history has come to: the state, how many literals and weights were named, how many words are lent.
 struct World {
     state: State,
-    inputs: usize,
+    literals: usize,
+    weights: usize,
     store: usize,
     clauses: usize,
     work: usize,
@@ -296,7 +299,8 @@ fn lent(
     clauses: &mut [i32],
     work: &mut [u32],
 ) -> State {
-    let n = w.inputs;
+    let n = w.literals;
+    let k = w.weights;
     let a = w.store;
     let b = w.clauses;
     let c = w.work;
@@ -304,7 +308,7 @@ fn lent(
     if lits.len() < n {
         return s;
     }
-    if weights.len() < n {
+    if weights.len() < k {
         return s;
     }
     if store.len() < a {
@@ -320,7 +324,7 @@ fn lent(
         line,
         s,
         &lits[..n],
-        &weights[..n],
+        &weights[..k],
         &mut store[..a],
         &mut clauses[..b],
         &mut work[..c],
@@ -334,18 +338,48 @@ fn put_weight(weights: &mut [u64], i: usize, w: u64) {
     }
 }
 
-// One more input. Linear in the line.
-fn input(line: &[u8], w: World, lits: &mut [i32], weights: &mut [u64]) -> World {
-    let n = w.inputs;
+// A literal written at i; nothing past the end. The lowest number of 32 bits is no literal's word. Linear in the line.
+fn put_literal(lits: &mut [i32], i: usize, line: &[u8]) {
+    if lits.len() <= i {
+        return;
+    }
+    if history_text::number(line, 1) == 2147483648 {
+        lits[i] = -2147483648;
+        return;
+    }
+    numbers::put_signed(lits, i, history_text::literal(line));
+}
+
+// One more literal. Linear in the line.
+fn literal(line: &[u8], w: World, lits: &mut [i32]) -> World {
+    let n = w.literals;
     if lits.len() <= n {
         return w;
     }
-    numbers::put_signed(lits, n, history_text::literal(line));
+    put_literal(lits, n, line);
+    let s = w.state;
+    World {
+        state: s,
+        literals: n + 1,
+        weights: w.weights,
+        store: w.store,
+        clauses: w.clauses,
+        work: w.work,
+    }
+}
+
+// One more weight. Linear in the line.
+fn weight(line: &[u8], w: World, weights: &mut [u64]) -> World {
+    let n = w.weights;
+    if weights.len() <= n {
+        return w;
+    }
     put_weight(weights, n, history_text::number(line, 2));
     let s = w.state;
     World {
         state: s,
-        inputs: n + 1,
+        literals: w.literals,
+        weights: n + 1,
         store: w.store,
         clauses: w.clauses,
         work: w.work,
@@ -357,7 +391,8 @@ fn lend(line: &[u8], w: World) -> World {
     let s = w.state;
     World {
         state: s,
-        inputs: w.inputs,
+        literals: w.literals,
+        weights: w.weights,
         store: history_text::long(line, 1),
         clauses: history_text::long(line, 2),
         work: history_text::long(line, 3),
@@ -383,7 +418,8 @@ fn fresh() -> World {
     };
     World {
         state: s,
-        inputs: 0,
+        literals: 0,
+        weights: 0,
         store: 0,
         clauses: 0,
         work: 0,
@@ -406,8 +442,11 @@ fn line(
         history_print::end_line();
         return fresh();
     }
+    if letter == b'x' {
+        return literal(line, w, lits);
+    }
     if letter == b'i' {
-        return input(line, w, lits, weights);
+        return weight(line, literal(line, w, lits), weights);
     }
     if letter == b'l' {
         return lend(line, w);
@@ -415,7 +454,8 @@ fn line(
     let s = lent(line, w, lits, weights, store, clauses, work);
     World {
         state: s,
-        inputs: w.inputs,
+        literals: w.literals,
+        weights: w.weights,
         store: w.store,
         clauses: w.clauses,
         work: w.work,
@@ -469,8 +509,8 @@ pub fn play(
 // Every line of the text over these buffers. Grows as the calls do.
 fn play_over(
     text: &[u8],
-    lits: &mut [i32; 256],
-    weights: &mut [u64; 256],
+    lits: &mut [i32; 257],
+    weights: &mut [u64; 257],
     store: &mut [u32; 24000],
     clauses: &mut [i32; 50000],
     work: &mut [u32; 16384],
@@ -478,11 +518,18 @@ fn play_over(
     play(text, lits, weights, store, clauses, work);
 }
 
-// The histories of standard input, over buffers with room for 3,000 records and 50,000 clause words. Grows as the calls do.
+fn blank_text() -> [u8; 131072]
+    ensures { λ r. ⌜ 131072 ≡ length r ⌝ }
+{
+    [0; 131072]
+}
+
+// The histories of standard input, over lists with room for 257 inputs, 3,000 records and 50,000 clause words. Grows as the
+// calls do.
 pub fn play_input() {
-    let mut text = io::large_buffer();
-    let mut lits = [0i32; 256];
-    let mut weights = [0u64; 256];
+    let mut text = blank_text();
+    let mut lits = [0i32; 257];
+    let mut weights = [0u64; 257];
     let mut work = [0u32; 16384];
     let mut store = [0u32; 24000];
     let mut clauses = [0i32; 50000];

@@ -92,10 +92,10 @@ pub fn long(line: &[u8], k: u32) -> usize {
     number(line, k) as usize
 }
 
-// The word of the literal that is number 1 of a line, 0 past the variables. Linear in the line.
+// The word of the signed number that is number 1 of a line, 0 where that has over 31 bits. Linear in the line.
 pub fn literal(line: &[u8]) -> u32 {
     let v = short(line, 1);
-    if 1000000000 < v {
+    if 2147483647 < v {
         return 0;
     }
     if byte(line, 2) == 45 {

@@ -24,12 +24,12 @@ returns-5 c = search needs
 slice-aggregate-turn : tie.Need-slice-aggregate-turn
 slice-aggregate-turn c =
     let args = c .before .before .before .before .before .before .before .before .before .before .before .args in
-    sym (length-take-le (args .w .inputs) (args .lits .now) (omega arith))
+    sym (length-take-le (args .w .literals) (args .lits .now) (omega arith))
 
 slice-aggregate-turn-2 : tie.Need-slice-aggregate-turn-2
 slice-aggregate-turn-2 c =
     let args = c .before .before .before .before .before .before .before .before .before .before .before .before .args in
-    sym (length-take-le (args .w .inputs) (args .weights .now) (omega arith))
+    sym (length-take-le (args .w .weights) (args .weights .now) (omega arith))
 
 slice-relend-prefix-turn : tie.Need-slice-relend-prefix-turn
 slice-relend-prefix-turn c = search needs

@@ -1,8 +1,8 @@
 -- `tree` lends the store eight times and keeps its length.
 use mathlib.Core.Path.{_∙_}
 use borrow.Author.Needs.{needs}
-use Rattle.cases_tree.proofs.tree.Statement.{statement}
-use Rattle.cases_tree.proofs.tree.Tie as tie
+use Rattle.cases_totalizer.proofs.tree.Statement.{statement}
+use Rattle.cases_totalizer.proofs.tree.Tie as tie
 
 leaf-requires : tie.Need-leaf-requires
 leaf-requires c κs = search needs

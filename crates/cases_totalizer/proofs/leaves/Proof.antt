@@ -4,8 +4,8 @@ use Prim.Native.Nat.{_-_, _≤_}
 use native.Mathlib.Omega.{arith}
 use borrow.Author.Needs.{needs}
 use lib.ListN.{length}
-use Rattle.cases_merge.proofs.leaves.Statement.{statement}
-use Rattle.cases_merge.proofs.leaves.Tie as tie
+use Rattle.cases_totalizer.proofs.leaves.Statement.{statement}
+use Rattle.cases_totalizer.proofs.leaves.Tie as tie
 
 abbrev Inv-loop : tie.InvT-loop
 Inv-loop s₀ members₀ n₀ i₀ s members n i = (i ≤ 256) × (length s ≡ length s₀) × (length members ≡ length members₀)
