@@ -1,5 +1,5 @@
 -- Demand 3: what a bound's answer admits. In the order in which it is read: what clauses mean, what the tree counts, what a refinement
--- keeps, what calls lead to; then the answers, the theorem, what each input weighs, instances, and the theorem over lent words.
+-- keeps, what calls lead to; the answers, the theorem over builds, what each input weighs; calls over lent words, and the theorem over them.
 pub mod Meaning
 pub mod Counting
 pub mod Refinement
@@ -7,5 +7,7 @@ pub mod Histories
 pub mod Answers
 pub mod Demand3
 pub mod Weights
-pub mod Instances
 pub mod Calls
+pub mod Words
+pub mod Admitted
+pub mod Instances
