@@ -1,5 +1,6 @@
 -- Demand 3: what a bound's answer admits. In the order in which it is read: what clauses mean, what the tree counts, what a refinement
--- keeps, what calls lead to; the answers, the theorem over builds, what each input weighs; calls over lent words, and the theorem over them.
+-- keeps, what calls lead to; the answers, the theorem over builds, what each input weighs; calls over lent words, the theorem over them, and
+-- the totals that are reported.
 pub mod Meaning
 pub mod Counting
 pub mod Refinement
@@ -10,4 +11,5 @@ pub mod Weights
 pub mod Calls
 pub mod Words
 pub mod Admitted
+pub mod Totals
 pub mod Instances
