@@ -2,3 +2,4 @@
 pub mod Clauses
 pub mod Worlds
 pub mod Reached
+pub mod Numbered

@@ -1,10 +1,15 @@
 -- Demand 3: what a bound's answer admits. In the order in which it is read: what clauses mean, what the tree counts, what a refinement
--- keeps, what calls lead to; then the answers, the theorem, its instances, and the theorem over lent words.
+-- keeps, what calls lead to; the answers, the theorem over builds, what each input weighs; calls over lent words, the theorem over them, and
+-- the totals that are reported.
 pub mod Meaning
 pub mod Counting
 pub mod Refinement
 pub mod Histories
 pub mod Answers
 pub mod Demand3
-pub mod Instances
+pub mod Weights
 pub mod Calls
+pub mod Words
+pub mod Admitted
+pub mod Totals
+pub mod Instances

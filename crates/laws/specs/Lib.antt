@@ -8,3 +8,4 @@ pub mod Queue
 pub mod Buckets
 pub mod Refinement
 pub mod Encode
+pub mod Coarse

@@ -1,4 +1,4 @@
--- Document 01, a module a section, in its order; then its blackboard, and small laws.
+-- Document 01, a module a section, in its order; then its blackboard, more cases, and tools on lists.
 pub mod Numbers
 pub mod Refusals
 pub mod Records
@@ -15,5 +15,7 @@ pub mod Encode
 pub mod Enforce
 pub mod Coarse
 pub mod Blackboard
+pub mod SmallBuilds
+pub mod SmallCalls
 pub mod Broken
 pub mod Lists

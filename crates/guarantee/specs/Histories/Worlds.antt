@@ -147,11 +147,11 @@ first-world xs ws b w two above e few =
 
 -- refinement
 module _ (xs : List ℤ) (ws : List ℕ) (b : Build) (w : World xs ws b) (two : 2 ≤ b .inputs) (built : b .built ≢ 0) (is-due : due b ≡ true) (few : merge-structures b .arena .fresh ≤ 1000000001) where
-  refine-reach : b .set ≤ largest (b .queue)
+  pub refine-reach : b .set ≤ largest (b .queue)
   unfolding due unbuilt
   refine-reach = leb-true (b .set) (largest (b .queue)) (ap (λ (t : Bool). not t && leb (b .set) (largest (b .queue))) (sym (ne-eqb (b .built) 0 built)) ∙ is-due)
 
-  refine-room : b .arena .fresh + length (rising (top-bit (b .built) - top-bit (b .set)) (b .arena .fresh)) ≤ 1000000001
+  pub refine-room : b .arena .fresh + length (rising (top-bit (b .built) - top-bit (b .set)) (b .arena .fresh)) ≤ 1000000001
   unfolding merge-structures with-arena restructured patched
   refine-room = omega (arith, merged-fresh (b .arena .records) (reverse (b .buckets)) (patched b .arena), few)
 
