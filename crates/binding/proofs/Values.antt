@@ -8,7 +8,7 @@ use Rattle.rules.specs.declared.Maximum.the-variants.{Yes, No, Refused as Refus
 use Rattle.rules.specs.declared.Coarse.{Coarse}
 use Rattle.rules.specs.declared.Coarse.the-variants.{Bound, Refused as Refused-coarse}
 use Rattle.rules.specs.Refusals.{precision-number, precision-value, maximum-number, maximum-value, coarse-number, coarse-value}
-use Rattle.binding.specs.Mirror.{divisor-value, yes-value, bound-value}
+use Rattle.binding.specs.Held.{divisor-value, yes-value, bound-value}
 
 pub a-divisor : (p : Precision) → (d : ℕ) → p ≡ Divisor d → record { refusal = 0; value = d } ≡ divisor-value p
 unfolding divisor-value precision-number precision-value

@@ -1,2 +1,2 @@
--- What the structs of the binding hold of the answers.
-pub mod Mirror
+-- The answers as the binding's structs hold them.
+pub mod Held

@@ -1,4 +1,4 @@
-// The public calls under C names, over lent slices. Each is the call of its name and demands nothing.
+// The public calls under C names, over lent slices. Each is the call of its name, demands nothing and takes the time of that call.
 ghost use mathlib.Core.Path.{_≡_};
 ghost use lib.ListN.{length};
 ghost use Rattle.rules.specs.Refusals.{answer-number};
@@ -7,29 +7,12 @@ ghost use Rattle.rules.specs.Precision.{set-precision, next-precision, is-max-p
 ghost use Rattle.rules.specs.Encode.{encode-ub-change};
 ghost use Rattle.rules.specs.Enforce.{enforce-ub};
 ghost use Rattle.rules.specs.Coarse.{coarse-ub};
-ghost use Rattle.binding.specs.Mirror.{state-of, mirrored, started, set-to, divisor-value, yes-value, bound-value, encoded};
+ghost use Rattle.binding.specs.Held.{started, set-to, divisor-value, yes-value, bound-value, encoded};
 use rules::Answer;
 use rules::Coarse;
 use rules::Maximum;
 use rules::Precision;
-
-// rules::State, laid out as C lays a struct out.
-#[repr(C)]
-pub struct State {
-    pub inputs: u32,
-    pub sum: u64,
-    pub set: u64,
-    pub built: u64,
-    pub records: usize,
-    pub words: usize,
-    pub clauses: usize,
-    pub variables: u32,
-    pub fresh: u32,
-    pub tares: [u32; 19],
-    pub tares_used: u32,
-    pub buckets: [u32; 20],
-    pub buckets_used: u32,
-}
+use rules::State;
 
 // What start and set_precision answer: the refusal number, else 0, and the state.
 #[repr(C)]
@@ -52,52 +35,6 @@ pub struct Encoded {
 pub struct Value {
     pub refusal: u32,
     pub value: u64,
-}
-
-// The state that the mirror holds. Constant time.
-fn state_of(s: State) -> rules::State
-    ensures { λ r. ⌜ r ≡ state-of s ⌝ }
-{
-    let tares = s.tares;
-    let buckets = s.buckets;
-    rules::State {
-        inputs: s.inputs,
-        sum: s.sum,
-        set: s.set,
-        built: s.built,
-        records: s.records,
-        words: s.words,
-        clauses: s.clauses,
-        variables: s.variables,
-        fresh: s.fresh,
-        tares,
-        tares_used: s.tares_used,
-        buckets,
-        buckets_used: s.buckets_used,
-    }
-}
-
-// The mirror of a state. Constant time.
-fn mirrored(s: rules::State) -> State
-    ensures { λ r. ⌜ r ≡ mirrored s ⌝ }
-{
-    let tares = s.tares;
-    let buckets = s.buckets;
-    State {
-        inputs: s.inputs,
-        sum: s.sum,
-        set: s.set,
-        built: s.built,
-        records: s.records,
-        words: s.words,
-        clauses: s.clauses,
-        variables: s.variables,
-        fresh: s.fresh,
-        tares,
-        tares_used: s.tares_used,
-        buckets,
-        buckets_used: s.buckets_used,
-    }
 }
 
 // The number of an answer. Constant time.
@@ -162,7 +99,7 @@ fn coarse_value(c: Coarse) -> Value
     }
 }
 
-// start. Growth as that of the call.
+// start.
 #[no_mangle]
 pub extern "C" fn tweedpillar_start(
     lits: &[i32],
@@ -178,11 +115,11 @@ pub extern "C" fn tweedpillar_start(
     let state = r.state;
     Answered {
         refusal: answer_number(answer),
-        state: mirrored(state),
+        state,
     }
 }
 
-// set_precision. Growth as that of the call.
+// set_precision.
 #[no_mangle]
 pub extern "C" fn tweedpillar_set_precision(
     s: State,
@@ -190,36 +127,36 @@ pub extern "C" fn tweedpillar_set_precision(
     clauses: &[i32],
     divisor: u64,
 ) -> Answered
-    ensures { λ r. ⌜ r ≡ set-to (set-precision (state-of s) (now (store .entry)) (now (clauses .entry)) divisor) ⌝ }
+    ensures { λ r. ⌜ r ≡ set-to (set-precision s (now (store .entry)) (now (clauses .entry)) divisor) ⌝ }
 {
-    let r = watchdog_precision::set_precision(state_of(s), store, clauses, divisor);
+    let r = watchdog_precision::set_precision(s, store, clauses, divisor);
     let answer = r.answer;
     let state = r.state;
     Answered {
         refusal: answer_number(answer),
-        state: mirrored(state),
+        state,
     }
 }
 
-// next_precision: the divisor. Growth as that of the call.
+// next_precision: the divisor.
 #[no_mangle]
 pub extern "C" fn tweedpillar_next_precision(s: State, store: &[u32], clauses: &[i32]) -> Value
-    ensures { λ r. ⌜ r ≡ divisor-value (next-precision (state-of s) (now (store .entry)) (now (clauses .entry))) ⌝ }
+    ensures { λ r. ⌜ r ≡ divisor-value (next-precision s (now (store .entry)) (now (clauses .entry))) ⌝ }
 {
-    let p = watchdog_precision::next_precision(state_of(s), store, clauses);
+    let p = watchdog_precision::next_precision(s, store, clauses);
     precision_value(p)
 }
 
-// is_max_precision: 1 for yes, 0 for no. Growth as that of the call.
+// is_max_precision: 1 for yes, 0 for no.
 #[no_mangle]
 pub extern "C" fn tweedpillar_is_max_precision(s: State, store: &[u32], clauses: &[i32]) -> Value
-    ensures { λ r. ⌜ r ≡ yes-value (is-max-precision (state-of s) (now (store .entry)) (now (clauses .entry))) ⌝ }
+    ensures { λ r. ⌜ r ≡ yes-value (is-max-precision s (now (store .entry)) (now (clauses .entry))) ⌝ }
 {
-    let m = watchdog_precision::is_max_precision(state_of(s), store, clauses);
+    let m = watchdog_precision::is_max_precision(s, store, clauses);
     maximum_value(m)
 }
 
-// encode_ub_change. Growth as that of the call.
+// encode_ub_change.
 #[no_mangle]
 pub extern "C" fn tweedpillar_encode_ub_change(
     s: State,
@@ -229,20 +166,20 @@ pub extern "C" fn tweedpillar_encode_ub_change(
     lo: u64,
     end: u64,
 ) -> Encoded
-    ensures { λ r. ⌜ (r ≡ encoded (encode-ub-change (state-of s) (now (store .entry)) (now (clauses .entry)) (now (work .entry)) lo end .answer)) × (now (store .exit) ≡ encode-ub-change (state-of s) (now (store .entry)) (now (clauses .entry)) (now (work .entry)) lo end .store) × (now (clauses .exit) ≡ encode-ub-change (state-of s) (now (store .entry)) (now (clauses .entry)) (now (work .entry)) lo end .clauses) × (now (work .exit) ≡ encode-ub-change (state-of s) (now (store .entry)) (now (clauses .entry)) (now (work .entry)) lo end .work) ⌝ }
+    ensures { λ r. ⌜ (r ≡ encoded (encode-ub-change s (now (store .entry)) (now (clauses .entry)) (now (work .entry)) lo end .answer)) × (now (store .exit) ≡ encode-ub-change s (now (store .entry)) (now (clauses .entry)) (now (work .entry)) lo end .store) × (now (clauses .exit) ≡ encode-ub-change s (now (store .entry)) (now (clauses .entry)) (now (work .entry)) lo end .clauses) × (now (work .exit) ≡ encode-ub-change s (now (store .entry)) (now (clauses .entry)) (now (work .entry)) lo end .work) ⌝ }
 {
-    let r = watchdog_encode::encode_ub_change(state_of(s), store, clauses, work, lo, end);
+    let r = watchdog_encode::encode_ub_change(s, store, clauses, work, lo, end);
     let answer = r.answer;
     let state = r.state;
     Encoded {
         refusal: answer_number(answer),
         variables: r.variables,
         clauses: r.clauses,
-        state: mirrored(state),
+        state,
     }
 }
 
-// enforce_ub: how many words at the front of the scratch are the answer. Growth as that of the call.
+// enforce_ub: how many words at the front of the scratch are the answer.
 #[no_mangle]
 pub extern "C" fn tweedpillar_enforce_ub(
     s: State,
@@ -252,16 +189,16 @@ pub extern "C" fn tweedpillar_enforce_ub(
     u: u64,
     refusal: &mut u32,
 ) -> usize
-    ensures { λ r. ⌜ (now (scratch .exit) ≡ enforce-ub (state-of s) (now (store .entry)) (now (clauses .entry)) (now (scratch .entry)) u .scratch) × (now (refusal .exit) ≡ enforce-ub (state-of s) (now (store .entry)) (now (clauses .entry)) (now (scratch .entry)) u .refusal) × (r ≡ length (enforce-ub (state-of s) (now (store .entry)) (now (clauses .entry)) (now (scratch .entry)) u .answer)) ⌝ }
+    ensures { λ r. ⌜ (now (scratch .exit) ≡ enforce-ub s (now (store .entry)) (now (clauses .entry)) (now (scratch .entry)) u .scratch) × (now (refusal .exit) ≡ enforce-ub s (now (store .entry)) (now (clauses .entry)) (now (scratch .entry)) u .refusal) × (r ≡ length (enforce-ub s (now (store .entry)) (now (clauses .entry)) (now (scratch .entry)) u .answer)) ⌝ }
 {
-    watchdog_enforce::enforce_count(state_of(s), store, clauses, scratch, u, refusal)
+    watchdog_enforce::enforce_count(s, store, clauses, scratch, u, refusal)
 }
 
-// coarse_ub: the bound. Growth as that of the call.
+// coarse_ub: the bound.
 #[no_mangle]
 pub extern "C" fn tweedpillar_coarse_ub(s: State, store: &[u32], clauses: &[i32], u: u64) -> Value
-    ensures { λ r. ⌜ r ≡ bound-value (coarse-ub (state-of s) (now (store .entry)) (now (clauses .entry)) u) ⌝ }
+    ensures { λ r. ⌜ r ≡ bound-value (coarse-ub s (now (store .entry)) (now (clauses .entry)) u) ⌝ }
 {
-    let c = watchdog_precision::coarse_ub(state_of(s), store, clauses, u);
+    let c = watchdog_precision::coarse_ub(s, store, clauses, u);
     coarse_value(c)
 }

@@ -10,9 +10,6 @@ start-requires c κs = search needs
 answer-number-requires : tie.Need-answer-number-requires
 answer-number-requires c κs = search needs
 
-mirrored-requires : tie.Need-mirrored-requires
-mirrored-requires c κs = search needs
-
 same-length : tie.Need-same-length
 same-length c = search needs
 
@@ -20,9 +17,7 @@ same-length-2 : tie.Need-same-length-2
 same-length-2 c = search needs
 
 returns : tie.Need-returns
-returns c =
-    let b = c .before .before .before .before .before .before in
-    start-held _ _ _ _ _ _ (b .start .ensures) (c .before .answer-number .ensures) (c .mirrored .ensures)
+returns c = start-held _ _ _ _ _ (c .before .before .before .before .before .start .ensures) (c .answer-number .ensures)
 
 pub tweedpillar-start-spec : {M : Type 1} → statement M
-tweedpillar-start-spec = tie.close (tie.spec start-requires answer-number-requires mirrored-requires same-length same-length-2 returns)
+tweedpillar-start-spec = tie.close (tie.spec start-requires answer-number-requires same-length same-length-2 returns)
