@@ -6,6 +6,7 @@ pub mod Counting
 pub mod Refinement
 pub mod Histories
 pub mod Answers
+pub mod Answered
 pub mod Demand3
 pub mod Weights
 pub mod Calls

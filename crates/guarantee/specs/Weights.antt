@@ -28,7 +28,7 @@ use Rattle.guarantee.specs.Counting.Weighing.{values}
 use Rattle.guarantee.specs.Answers.{sum-of}
 use Rattle.guarantee.specs.Histories.Worlds.{Leads, World}
 use Rattle.guarantee.specs.Histories.Reached.{started-world, leads-world}
-use Rattle.guarantee.specs.Demand3.{counting}
+use Rattle.guarantee.specs.Answered.{counting}
 
 -- how often the literal x stands under node n: what n counts where x alone is true
 abbrev pub stands : Build → ℤ → ℕ → ℕ
