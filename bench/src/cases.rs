@@ -49,7 +49,7 @@ impl Case {
     /// A divisor to start from: the largest power of two at most the square root of the largest weight.
     pub fn coarse_divisor(&self) -> u64 {
         let largest = *self.weights.iter().max().unwrap_or(&1);
-        1 << (largest.ilog2() / 2)
+        1 << ((63 - largest.leading_zeros()) / 2)
     }
 }
 

@@ -5,6 +5,9 @@
 //!     bench refinements [INPUTS...]    the same for a refinement
 //!     bench bytes [INPUTS...]          bytes that an encode leaves written, against memory bandwidth
 //!     bench sizes [INPUTS...]          what store, clause buffer and numbers a build needs
+//!     bench alone PART INPUTS WEIGHTS RANGE    one part once, for bench/instructions to count: `sized` (the plain side once, and slices
+//!                                              as long as its build needs), `plain` (sized, and the plain side again), `library`
+//!                                              (sized, then start and encode), `enforce` (library, then an enforce)
 //!
 //! Both sides must write the same clauses and answer the same literals, else it stops. INPUTS are 16 64 128 256 by default.
 mod cases;
@@ -211,6 +214,33 @@ fn sizes(counts: &[usize]) {
     }
 }
 
+/// One part of the work on one case.
+fn alone(words: &[String]) {
+    let (part, count, kind, range) = match words {
+        [part, count, kind, range] => (part, count, kind, range),
+        _ => refuse("alone takes a part, the inputs, the weights and the range"),
+    };
+    let counts = counts(&[count.clone()]);
+    let ranges = ["one bound", "a tenth", "every bound"];
+    let found = cases(&counts, &ranges).find(|case| case.kind == kind && case.range == range);
+    let case = found.unwrap_or_else(|| refuse(&format!("no case has weights '{kind}' and range '{range}'")));
+    let plain = start_and_encode(&case);
+    let mut lent = Lent::like(&plain);
+    match part.as_str() {
+        "sized" => (),
+        "plain" => drop(black_box(start_and_encode(&case))),
+        "library" | "enforce" => {
+            let state = lent.start(&case);
+            let state = lent.encode(state, case.lo, case.end);
+            if part == "enforce" {
+                black_box(lent.enforce(state, &mut [0; ANSWER_WORDS], case.lo).len());
+            }
+        }
+        _ => refuse(&format!("a part is sized, plain, library or enforce, not {part}")),
+    }
+    black_box(&plain);
+}
+
 fn refuse(why: &str) -> ! {
     eprintln!("bench: {why}");
     std::process::exit(2)
@@ -228,19 +258,23 @@ fn counts(words: &[String]) -> Vec<usize> {
 
 fn main() {
     let words: Vec<String> = std::env::args_os().skip(1).map(|word| word.to_string_lossy().into_owned()).collect();
-    let Some((table, rest)) = words.split_first() else {
-        let counts = counts(&[]);
-        times(&counts);
-        println!();
-        refinements(&counts);
-        println!();
-        return bytes(&counts);
+    let (table, rest) = match words.split_first() {
+        Some(words) => words,
+        None => {
+            let counts = counts(&[]);
+            times(&counts);
+            println!();
+            refinements(&counts);
+            println!();
+            return bytes(&counts);
+        }
     };
     match table.as_str() {
         "times" => times(&counts(rest)),
         "refinements" => refinements(&counts(rest)),
         "bytes" => bytes(&counts(rest)),
         "sizes" => sizes(&counts(rest)),
-        _ => refuse(&format!("the first word is times, refinements, bytes or sizes, not {table}")),
+        "alone" => alone(rest),
+        _ => refuse(&format!("the first word is times, refinements, bytes, sizes or alone, not {table}")),
     }
 }

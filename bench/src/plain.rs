@@ -1,6 +1,5 @@
-//! Document 01's first build, refinement, encode and enforce written plainly: heap vectors for nodes and clauses, a hash table for outputs.
-//! No refusals, no lent memory, no test of what is handed in.
-use std::collections::HashMap;
+//! Document 01's first build, refinement, encode and enforce written plainly: heap vectors for nodes and clauses, for each node a
+//! vector of its outputs' numbers by value. No refusals, no lent memory, no test of what is handed in.
 
 #[derive(Clone, Copy)]
 struct Join {
@@ -26,7 +25,9 @@ struct Former {
 pub struct Plain {
     nodes: Vec<Node>,
     maxima: Vec<usize>,
-    outputs: HashMap<(usize, usize), i32>,
+    /// By node and value; 0 where there is none.
+    outputs: Vec<Vec<i32>>,
+    defined: usize,
     /// The largest weight first, once built.
     waiting: Vec<(usize, u64)>,
     tares: Vec<i32>,
@@ -42,13 +43,13 @@ pub struct Plain {
 }
 
 fn power(number: u64) -> usize {
-    number.max(1).ilog2() as usize
+    63 - number.max(1).leading_zeros() as usize
 }
 
 impl Plain {
     pub fn new(lits: &[i32], weights: &[u64], first: u32) -> Self {
         let mut plain = Plain {
-            nodes: Vec::new(), maxima: Vec::new(), outputs: HashMap::new(), waiting: Vec::new(), tares: Vec::new(),
+            nodes: Vec::new(), maxima: Vec::new(), outputs: Vec::new(), defined: 0, waiting: Vec::new(), tares: Vec::new(),
             buckets: Vec::new(), sum: weights.iter().sum(), set: 1, built: 0, fresh: first as i32, clauses: Vec::new(), count: 0,
         };
         for (&literal, &weight) in lits.iter().zip(weights) {
@@ -64,12 +65,13 @@ impl Plain {
 
     /// What the library keeps a record for.
     pub fn records(&self) -> usize {
-        self.nodes.len() + self.outputs.len() + self.waiting.len()
+        self.nodes.len() + self.defined + self.waiting.len()
     }
 
     fn add(&mut self, node: Node, maximum: usize) -> usize {
         self.nodes.push(node);
         self.maxima.push(maximum);
+        self.outputs.push(Vec::new());
         self.nodes.len() - 1
     }
 
@@ -89,6 +91,20 @@ impl Plain {
         self.join(left, right, false)
     }
 
+    /// The number of an output, 0 where it is not defined.
+    fn numbered(&self, node: usize, value: usize) -> i32 {
+        self.outputs[node].get(value).copied().unwrap_or(0)
+    }
+
+    fn define(&mut self, node: usize, value: usize, number: i32) {
+        let numbers = &mut self.outputs[node];
+        if numbers.len() <= value {
+            numbers.resize(value + 1, 0);
+        }
+        numbers[value] = number;
+        self.defined += 1;
+    }
+
     fn number(&mut self) -> i32 {
         self.fresh += 1;
         self.fresh - 1
@@ -99,7 +115,7 @@ impl Plain {
         let mut members = vec![Vec::new(); powers];
         let mut queue = std::mem::take(&mut self.waiting);
         queue.sort_by(|a, b| b.1.cmp(&a.1));
-        while queue.first().is_some_and(|entry| entry.1 >= self.set) {
+        while queue.first().map_or(false, |entry| entry.1 >= self.set) {
             let weight = queue[0].1;
             let run = queue.partition_point(|entry| entry.1 == weight);
             let nodes: Vec<usize> = queue.drain(..run).map(|entry| entry.0).collect();
@@ -150,7 +166,7 @@ impl Plain {
 
     /// Whether a waiting weight reaches the set divisor.
     fn due(&self) -> bool {
-        self.waiting.first().is_some_and(|entry| entry.1 >= self.set)
+        self.waiting.first().map_or(false, |entry| entry.1 >= self.set)
     }
 
     fn refine(&mut self) {
@@ -181,8 +197,8 @@ impl Plain {
     }
 
     fn former(&self, bucket: usize) -> Former {
-        let numbered = |value| self.outputs.get(&(bucket, value)).map(|&number| (number, value));
-        let mut outputs: Vec<(i32, usize)> = (1..=self.maxima[bucket]).filter_map(numbered).collect();
+        let numbered = |value| (self.numbered(bucket, value), value);
+        let mut outputs: Vec<(i32, usize)> = (1..=self.maxima[bucket]).map(numbered).filter(|output| output.0 != 0).collect();
         outputs.sort();
         Former { bucket, half: self.maxima[self.join_at(bucket).right] / 2, outputs }
     }
@@ -214,12 +230,13 @@ impl Plain {
             Node::Dummy => unreachable!("a dummy's maximum is 0"),
             Node::Join(join) => join,
         };
-        if let Some(&number) = self.outputs.get(&(node, value)) {
-            return number;
+        let defined = self.numbered(node, value);
+        if defined != 0 {
+            return defined;
         }
         let sides = self.sides(join, value, 0);
         let number = self.number();
-        self.outputs.insert((node, value), number);
+        self.define(node, value, number);
         self.write(&sides, number);
         number
     }
@@ -275,7 +292,10 @@ impl Plain {
         if j >= self.maxima[root] as u64 {
             return Some(Vec::new());
         }
-        let output = *self.outputs.get(&(root, j as usize + 1))?;
+        let output = self.numbered(root, j as usize + 1);
+        if output == 0 {
+            return None;
+        }
         let lacking = weight - 1 - u % weight;
         let mut answer = vec![-output];
         answer.extend((0..self.tares.len()).rev().filter(|k| lacking >> k & 1 == 1).map(|k| self.tares[k]));
