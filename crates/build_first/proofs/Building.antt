@@ -25,8 +25,8 @@ use Rattle.build_queue.proofs.Members.{members-empty}
 use Rattle.build_queue.proofs.Waiting.{queued-start}
 use Rattle.build_buckets.proofs.Words.{made-length}
 use Rattle.build_tower.specs.Rule.{tower}
-use Rattle.encode_begin.specs.declared.Structure.{Structure}
-use Rattle.encode_begin.specs.Named.{Named}
+use Rattle.build_begin.specs.declared.Structure.{Structure}
+use Rattle.build_begin.specs.Named.{Named}
 use Rattle.build_first.specs.Ready.{Ready}
 
 -- the first build by its fuel and its count of new numbers
@@ -92,10 +92,12 @@ module _ (b : Build) (ws : List ℕ) (h : ℕ) (r : Ready b ws h) where
         λ f. let named = out .1 f in
             let buckets : made-in us used ≡ build-structure b .buckets = ap (λ (x : List ℕ × List Entry). x .0) named in
             record {
-              tares-are = ez ∙ et;
-              tares-many = en ∙ sym (rising-length k (b .arena .fresh));
-              buckets-are = eb ∙ ap (padded 0 20) buckets;
-              buckets-many = eu ∙ (sym (made-length us used few long) ∙ ap length buckets);
+              slots = record {
+                tares-are = ez ∙ et;
+                tares-many = en ∙ sym (rising-length k (b .arena .fresh));
+                buckets-are = eb ∙ ap (padded 0 20) buckets;
+                buckets-many = eu ∙ (sym (made-length us used few long) ∙ ap length buckets);
+              };
               queue-is = ap (λ (x : List ℕ × List Entry). x .1) named;
             },
       )

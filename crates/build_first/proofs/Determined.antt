@@ -10,7 +10,7 @@ use Rattle.rules.specs.Build.{buildOf}
 use Rattle.rules.specs.Buckets.{build-structure}
 use Rattle.records.specs.Carries.{St, st, Fits, Carries}
 use Rattle.records.proofs.Agree.{carries-same}
-use Rattle.encode_begin.proofs.Determined.{Same-named, named-same}
+use Rattle.build_begin.proofs.Determined.{Same-named, named-same}
 use Rattle.build_first.proofs.build_structure.Kinds as kinds
 use Rattle.build_first.proofs.build_structure.Reads as build
 

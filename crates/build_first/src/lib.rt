@@ -7,9 +7,9 @@ ghost use lib.IntN.{ℤ};
 ghost use Rattle.rules.specs.Build.{buildOf};
 ghost use Rattle.rules.specs.Buckets.{build-structure};
 ghost use Rattle.records.specs.Carries.{St, st, Fits, Carries};
-ghost use Rattle.encode_begin.specs.Named.{Named};
+ghost use Rattle.build_begin.specs.Named.{Named};
 ghost use Rattle.build_first.specs.Ready.{Ready};
-use encode_begin::Structure;
+use build_begin::Structure;
 use records::Marks;
 use rules::State;
 

@@ -3,19 +3,34 @@ ghost use mathlib.Core.Path.{_≡_};
 ghost use mathlib.Core.List.{List};
 ghost use Prim.Native.Nat.{_+_, _≤_, _<_, min};
 ghost use lib.IntN.{ℤ};
-ghost use lib.ListN.{length};
 ghost use Rattle.rules.specs.Lists.{rising};
 ghost use Rattle.rules.specs.Records.{Record};
-ghost use Rattle.rules.specs.Build.{Build, root};
+ghost use Rattle.rules.specs.Build.{Build};
 ghost use Rattle.rules.specs.Encode.{encode-outputs};
 ghost use Rattle.records.specs.Carries.{St, st, Fits, Carries, Steps, Stores};
+ghost use Rattle.build_begin.specs.Named.{with-marks, Slots};
 ghost use Rattle.encode_outputs.specs.Values.{values, outputs-of, all-defined};
-ghost use Rattle.encode_outputs.specs.Taken.{entries-by, with-waiting};
+ghost use Rattle.encode_outputs.specs.Taken.{Near, entries-at, with-waiting, whole};
+use build_begin::Structure;
 use records::Marks;
 
-// Values of a node: the first, and how many.
+// A range of bounds: lo to end - 1.
 pub struct Range {
+    pub lo: u64,
+    pub end: u64,
+}
+
+// Outputs of a node: the first value, and how many.
+pub struct Outputs {
     pub first: u32,
+    pub many: usize,
+}
+
+// Where waiting entries stand among words: the node and the weight of the first, how far on those of the next are, and how many.
+pub struct Places {
+    pub node: usize,
+    pub weight: usize,
+    pub apart: usize,
     pub many: usize,
 }
 
@@ -28,53 +43,52 @@ fn lower(x: u64, y: u64) -> u64
     y
 }
 
-// The root outputs of the range lo to end - 1, those above the maximum skipped. Constant time.
-pub fn values(most: u32, tares: u32, lo: u64, end: u64) -> Range
-    requires { ⌜ (tares ≤ 19) × (lo < end) ⌝ }
-    ensures { λ r. ⌜ (rising (r .many) (r .first) ≡ values most tares lo end) × (r .first + r .many ≤ 4294967296) ⌝ }
+// The root outputs of the range, those above the maximum skipped. Constant time.
+pub fn values(most: u32, tares: u32, range: Range) -> Outputs
+    requires { ⌜ (tares ≤ 19) × (range .lo < range .end) ⌝ }
+    ensures { λ r. ⌜ (rising (r .many) (r .first) ≡ values most tares (range .lo) (range .end)) × (r .first + r .many ≤ 4294967296) ⌝ }
 {
     let w = numbers::power(tares);
-    let low = lo / w;
+    let low = range.lo / w;
     if (most as u64) <= low {
-        return Range { first: 1, many: 0 };
+        return Outputs { first: 1, many: 0 };
     }
-    let high = lower((end - 1) / w + 1, most as u64);
-    Range {
+    let high = lower((range.end - 1) / w + 1, most as u64);
+    Outputs {
         first: (low + 1) as u32,
         many: (high - low) as usize,
     }
 }
 
 // The root outputs of the range, defined. A define for each.
-pub fn encode_outputs(
-    s: &mut [u32],
-    c: &mut [i32],
+fn encode_outputs(
+    store: &mut [u32],
+    clauses: &mut [i32],
     m: Marks,
     root: u32,
     tares: u32,
-    lo: u64,
-    end: u64,
+    range: Range,
 ) -> Marks
-    requires { ⌜ (tares ≤ 19) × (lo < end) ⌝ }
-    ensures { λ z. ⌜ Steps (st (now (s .entry)) (now (c .entry)) m) (st (now (s .exit)) (now (c .exit)) z) (outputs-of root tares lo end) ⌝ }
+    requires { ⌜ (tares ≤ 19) × (range .lo < range .end) ⌝ }
+    ensures { λ z. ⌜ Steps (st (now (store .entry)) (now (clauses .entry)) m) (st (now (store .exit)) (now (clauses .exit)) z) (outputs-of root tares (range .lo) (range .end)) ⌝ }
 {
     if m.full {
         return m;
     }
-    let most = records::maximum(s, m.records, root);
-    let v = values(most, tares, lo, end);
-    totalizer_define::define_from(s, c, m, root, v.first, v.many)
+    let most = records::maximum(store, m.records, root);
+    let v = values(most, tares, range);
+    totalizer_define::define_from(store, clauses, m, root, v.first, v.many)
 }
 
-// Whether so many outputs of the node are defined, from a first one on. A find for each.
-pub fn all_defined(s: &[u32], records: usize, node: u32, first: u32, many: usize) -> bool
-    requires { ⌜ first + many ≤ 4294967296 ⌝ }
-    ensures { λ r. ⌜ ((rs : List Record) → Stores (now (s .entry)) records rs → r ≡ all-defined rs node (rising many first)) ⌝ }
+// Whether these outputs of the node are defined. A find for each.
+pub fn all_defined(store: &[u32], records: usize, node: u32, vs: Outputs) -> bool
+    requires { ⌜ vs .first + vs .many ≤ 4294967296 ⌝ }
+    ensures { λ r. ⌜ ((rs : List Record) → Stores (now (store .entry)) records rs → r ≡ all-defined rs node (rising (vs .many) (vs .first))) ⌝ }
 {
-    let mut v = first as usize;
-    let mut k = many;
+    let mut v = vs.first as usize;
+    let mut k = vs.many;
     while 0 < k {
-        if totalizer_find::find(s, records, node, v as u32) == 0 {
+        if totalizer_find::find(store, records, node, v as u32) == 0 {
             return false;
         }
         v += 1;
@@ -83,50 +97,57 @@ pub fn all_defined(s: &[u32], records: usize, node: u32, first: u32, many: usize
     true
 }
 
-// Waiting entries behind the records, read from the work words. Linear in the entries.
-pub fn append_waiting(
-    s: &mut [u32],
-    m: Marks,
-    work: &[u32],
-    a: usize,
-    b: usize,
-    apart: usize,
-    many: usize,
-) -> Marks
-    requires { ⌜ (a ≤ 16384) × (b ≤ 16384) × (apart ≤ 8) × (many ≤ 512) ⌝ }
-    ensures { λ z. ⌜ ((c : List ℤ) → Steps (st (now (s .entry)) c m) (st (now (s .exit)) c z) (with-waiting (entries-by (now (work .entry)) a b apart many))) ⌝ }
+// The waiting entries of the work words behind the records. Linear in the entries.
+fn append_waiting(store: &mut [u32], m: Marks, work: &[u32], at: Places) -> Marks
+    requires { ⌜ Near at ⌝ }
+    ensures { λ z. ⌜ ((c : List ℤ) → Steps (st (now (store .entry)) c m) (st (now (store .exit)) c z) (with-waiting (entries-at (now (work .entry)) at))) ⌝ }
 {
     let mut n = m;
-    let mut x = a;
-    let mut y = b;
-    let mut k = many;
+    let mut x = at.node;
+    let mut y = at.weight;
+    let mut k = at.many;
     while 0 < k {
-        n = records_append::waiting(s, n, records::word(work, x), records::word(work, y));
-        x += apart;
-        y += apart;
+        n = records_append::waiting(store, n, records::word(work, x), records::word(work, y));
+        x += at.apart;
+        y += at.apart;
         k -= 1;
     }
     n
 }
 
-// The root outputs of the range defined, and then what waits appended. A define for each output, linear in the entries.
-pub fn finish(
-    s: &mut [u32],
-    c: &mut [i32],
-    m: Marks,
-    node: u32,
-    tares: u32,
-    lo: u64,
-    end: u64,
-    work: &[u32],
-    a: usize,
-    b: usize,
-    apart: usize,
-    many: usize,
-) -> Marks
-    requires { ⌜ (tares ≤ 19) × (lo < end) × (a ≤ 16384) × (b ≤ 16384) × (apart ≤ 8) × (many ≤ 512) ⌝ }
-    ensures { λ z. ⌜ ((e : St) (p : Build) → Carries e (st (now (s .entry)) (now (c .entry)) m) (p .arena) → (Fits e (p .arena) → (node ≡ root p) × (tares ≡ length (p .tares)) × (entries-by (now (work .entry)) a b apart many ≡ p .queue)) → Carries e (st (now (s .exit)) (now (c .exit)) z) (with-waiting (p .queue) (encode-outputs p lo end .arena))) ⌝ }
+// The structure with other marks. Constant time.
+fn marked(z: Structure, marks: Marks) -> Structure
+    ensures { λ r. ⌜ r ≡ with-marks z marks ⌝ }
 {
-    let n = encode_outputs(s, c, m, node, tares, lo, end);
-    append_waiting(s, n, work, a, b, apart, many)
+    let tares = z.tares;
+    let buckets = z.buckets;
+    Structure {
+        marks,
+        head: z.head,
+        tares,
+        tares_used: z.tares_used,
+        buckets,
+        buckets_used: z.buckets_used,
+    }
+}
+
+// The root outputs of the range defined, and then what waits appended. A define for each output, linear in the entries.
+pub fn completed(
+    store: &mut [u32],
+    clauses: &mut [i32],
+    work: &[u32],
+    z: Structure,
+    range: Range,
+    at: Places,
+) -> Structure
+    requires { ⌜ (z .«tares_used» ≤ 19) × (range .lo < range .end) × Near at ⌝ }
+    ensures marks { λ y. ⌜ y ≡ with-marks z (y .marks) ⌝ }
+    ensures { λ y. ⌜ ((e : St) (p : Build) → Carries e (st (now (store .entry)) (now (clauses .entry)) (z .marks)) (p .arena) →
+        (Fits e (p .arena) → Slots z p × (entries-at (now (work .entry)) at ≡ p .queue)) →
+        Carries e (st (now (store .exit)) (now (clauses .exit)) (y .marks)) (whole (encode-outputs p (range .lo) (range .end)))) ⌝ }
+{
+    let buckets = z.buckets;
+    let n = encode_outputs(store, clauses, z.marks, buckets[0], z.tares_used, range);
+    let marks = append_waiting(store, n, work, at);
+    marked(z, marks)
 }

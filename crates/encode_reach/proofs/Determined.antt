@@ -13,26 +13,13 @@ use Rattle.rules.specs.Encode.{prepared, encode-outputs}
 use Rattle.records.specs.Carries.{St, st, marksOf, Fits}
 use Rattle.records.proofs.Grow.{fits-or}
 use Rattle.records.proofs.Entry.{holds-same}
-use Rattle.encode_begin.specs.declared.Structure.{Structure}
-use Rattle.encode_begin.specs.Named.{begun}
-use Rattle.encode_reach.specs.Reached.{whole, Has, Reached}
+use Rattle.build_begin.specs.declared.Structure.{Structure}
+use Rattle.build_begin.specs.Named.{marks-at}
+use Rattle.build_begin.proofs.Determined.{Same-slots, slots-same}
+use Rattle.encode_outputs.specs.Taken.{whole}
+use Rattle.encode_reach.specs.Reached.{Reached}
 use Rattle.encode_reach.proofs.reach.Kinds as kinds
 use Rattle.encode_reach.proofs.reach.Reads as reach
-
--- z and y have the same tares and buckets
-pub record Same-slots (z y : Structure) : Type 0 where
-  pub tares : z .tares ≡ y .tares
-  pub tares-many : z .«tares_used» ≡ y .«tares_used»
-  pub buckets : z .buckets ≡ y .buckets
-  pub buckets-many : z .«buckets_used» ≡ y .«buckets_used»
-
-slots-same : (z y : Structure) (c : Build) → Has z c → Has y c → Same-slots z y
-slots-same z y c h k = record {
-  tares = h .tares-are ∙ sym (k .tares-are);
-  tares-many = h .tares-many ∙ sym (k .tares-many);
-  buckets = h .buckets-are ∙ sym (k .buckets-are);
-  buckets-many = h .buckets-many ∙ sym (k .buckets-many);
-}
 
 reached-same : (buckets : List ℕ) (e τ υ : St) (c : Build) (z y : Structure) → Reached buckets e τ c z → Reached buckets e υ c y →
     (Fits e (whole c) → (τ ≡ υ) × Same-slots z y) × (marksOf τ .full ≡ marksOf υ .full)
@@ -45,8 +32,8 @@ reached-same buckets e τ υ c z y p q =
 
 pub reach-determined : (κs : Lfts 3) (a : Dens κs kinds.ps) (x y : resT kinds.r κs .Denot) (e f : AtExit (endedOf 3 kinds.ps kinds.r) κs) →
     reach.Post κs a x e → reach.Post κs a y f →
-    ((Fits (st (a .1 .0 .now) (a .1 .1 .0 .now) (begun (a .0) (a .1 .1 .1 .1 .0)))
-    (whole (encode-outputs (prepared (buildOf (a .0) (a .1 .0 .now))) (a .1 .1 .1 .1 .1 .0) (a .1 .1 .1 .1 .1 .1 .0))) →
+    ((Fits (st (a .1 .0 .now) (a .1 .1 .0 .now) (marks-at (a .0) (a .1 .1 .1 .1 .0)))
+    (whole (encode-outputs (prepared (buildOf (a .0) (a .1 .0 .now))) (a .1 .1 .1 .1 .1 .1 .0 .lo) (a .1 .1 .1 .1 .1 .1 .0 .end))) →
     (st (e .1 .0 .now) (e .1 .1 .0 .now) (x .marks) ≡ st (f .1 .0 .now) (f .1 .1 .0 .now) (y .marks)) × Same-slots x y) × (x .marks .full ≡ y .marks .full)) ×
     (take 3072 (e .1 .1 .1 .0 .now) ≡ take 3072 (f .1 .1 .1 .0 .now))
 reach-determined κs a x y e f p q = (reached-same _ _ _ _ _ _ _ (p .0) (q .0), p .2 ∙ sym (q .2))

@@ -1,6 +1,6 @@
 -- The laws of what an encode reaches.
 pub mod Reaching
-pub mod Standing
+pub mod Stands
 pub mod Ways
 pub mod Renewed
 pub mod Determined

@@ -8,36 +8,28 @@ use lib.Seq.{getD-take, getD-drop, drop-drop}
 use lib.IntN.{ℤ}
 use Rattle.rules.specs.Records.{Entry, waiting, record-image, imageOf}
 use Rattle.rules.specs.Totalizer.{Arena}
-use Rattle.rules.specs.Build.{Build, with-arena, restructured, root}
+use Rattle.rules.specs.Build.{Build, with-arena, restructured}
 use Rattle.rules.specs.Encode.{encode-outputs}
 use Rattle.laws.specs.Records.Images.{drop-take}
 use Rattle.records.specs.declared.Marks.{Marks}
 use Rattle.records.specs.Carries.{St, bufferOf, Fits, Carries}
-use Rattle.records.proofs.Grow.{Grows, grows-trans, fits-less}
+use Rattle.records.proofs.Grow.{fits-less}
 use Rattle.build_line.specs.Work.{line, line-from}
-use Rattle.encode_outputs.specs.Values.{outputs-of}
-use Rattle.encode_outputs.specs.Taken.{entries-by, with-waiting}
-use Rattle.encode_outputs.proofs.Lasts.{outputs-grow, waiting-grows, outputs-are}
-use Rattle.encode_begin.specs.declared.Structure.{Structure}
+use Rattle.encode_outputs.specs.Taken.{entries-by, whole}
+use Rattle.encode_outputs.proofs.Lasts.{whole-grows}
+use Rattle.build_begin.specs.declared.Structure.{Structure}
+use Rattle.build_begin.specs.Named.{Slots}
 use Rattle.refine_structure.specs.Based.{Based}
 use Rattle.refine_structure.proofs.Bases.{based-fits, fits-based, based-holds, based-kept}
-use Rattle.encode_reach.specs.Reached.{whole, Has, Reached}
-
--- what is reached grows from what was prepared
-whole-grows : (p : Build) (lo end : ℕ) → Grows (p .arena) (whole (encode-outputs p lo end))
-unfolding whole encode-outputs with-arena restructured
-whole-grows p lo end =
-    let t : Arena = outputs-of (root p) (length (p .tares)) lo end (p .arena) in
-    subst (λ (u : Arena). Grows (p .arena) (with-waiting (p .queue) u)) (outputs-are p lo end)
-    (grows-trans (p .arena) t (with-waiting (p .queue) t) (outputs-grow (root p) (length (p .tares)) lo end (p .arena)) (waiting-grows (p .queue) t))
+use Rattle.encode_reach.specs.Reached.{Reached}
 
 module _ (bs : List ℕ) (e e′ τ : St) (k : ℕ) (based : Based bs e e′ k) (p : Build) (lo end : ℕ) (z : Structure) (within : k ≤ length (p .arena .records)) where
   abbrev u : Arena
   u = whole (encode-outputs p lo end)
 
-  pub reached : Carries e′ τ (with-waiting (p .queue) (encode-outputs p lo end .arena)) → (Fits e′ (p .arena) → Has z p) → Reached bs e τ (encode-outputs p lo end) z
-  unfolding whole encode-outputs with-arena restructured
-  reached c has = record {
+  pub reached : Carries e′ τ u → (Fits e′ (p .arena) → Slots z p) → Reached bs e τ (encode-outputs p lo end) z
+  unfolding encode-outputs with-arena restructured
+  reached c named = record {
     same-store = c .same-store ∙ based .same-length;
     same-buffer = c .same-buffer ∙ ap length (based .same-buffer);
     kept-store = based-kept bs e e′ k based u τ c;
@@ -45,7 +37,7 @@ module _ (bs : List ℕ) (e e′ τ : St) (k : ℕ) (based : Based bs e e′ k) 
         (c .kept-buffer ∙ ap₂ (λ (m : Marks) (b : List ℤ). take (m .words) b) (based .same-marks) (based .same-buffer));
     fit = λ f.
         let f′ : Fits e′ u = based-fits bs e e′ k based u f in
-        let h : Has z p = has (fits-less e′ (p .arena) u (whole-grows p lo end) f′) in (
+        let h : Slots z p = named (fits-less e′ (p .arena) u (whole-grows p lo end) f′) in (
           based-holds bs e e′ k based u τ (omega (arith, within, whole-grows p lo end .records-grow)) (c .fit f′),
           record { tares-are = h .tares-are; tares-many = h .tares-many; buckets-are = h .buckets-are; buckets-many = h .buckets-many },
         );

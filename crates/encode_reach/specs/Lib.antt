@@ -1,3 +1,2 @@
--- What an encode is handed, and what it reaches over the memory it was lent.
-pub mod Starts
+-- What an encode reaches over the memory it was lent.
 pub mod Reached

@@ -9,9 +9,9 @@ use Rattle.rules.specs.declared.State.{State}
 use Rattle.rules.specs.Build.{buckets-of}
 use Rattle.laws.specs.Lists.Facts.{occurs}
 use Rattle.laws.specs.Records.Images.{drop-take}
-use Rattle.encode_save.specs.Copies.{copied, Saves, Restores}
-use Rattle.encode_save.proofs.Copying.{front-same, copied-length}
-use Rattle.encode_undo.specs.Aside.{Aside, But}
+use Rattle.encode_undo.specs.Copies.{copied, Saves, Restores}
+use Rattle.encode_undo.proofs.Copying.{front-same, copied-length}
+use Rattle.encode_undo.specs.Aside.{Roomy, Aside, Kept}
 
 -- words copied to the front
 front-copied : (from to : List ℕ) (a k : ℕ) → a + k ≤ length from → take k (copied from a to 0 k) ≡ take k (drop a from)
@@ -19,9 +19,8 @@ unfolding copied
 front-copied from to a k h =
     take-at (take k (drop a from)) (drop (0 + k) to) k (length-take-le k (drop a from) (omega (arith, length-drop a from)))
 
-pub aside : (s : State) (o w v u : List ℕ) (n : ℕ) → n ≤ s .records → s .records ≤ n + 256 → 8 * s .records ≤ length o → 16384 ≤ length w →
-    v ≡ copied o (8 * n) w 0 (8 * (s .records - n)) → Saves o v u (s .buckets) (s .«buckets_used») → Aside s o u n × (length u ≡ length w)
-aside s o w v u n low few long room e saves =
+pub aside : (s : State) (o w v u : List ℕ) (n : ℕ) → Roomy s o w n → v ≡ copied o (8 * n) w 0 (8 * (s .records - n)) → Saves o v u (s .buckets) (s .«buckets_used») → Aside s o u n × (length u ≡ length w)
+aside s o w v u n room e saves =
     let k : ℕ = 8 * (s .records - n) in
     let lv : length v ≡ length w = ap length e ∙ copied-length o (8 * n) w 0 k (omega arith) (omega arith) in
     let lu : length u ≡ length w = saves .same-length ∙ lv in (
@@ -34,10 +33,10 @@ aside s o w v u n low few long room e saves =
       lu,
     )
 
-pub back : (s : State) (x v y work : List ℕ) (n : ℕ) → n ≤ s .records → 8 * s .records ≤ length x → Restores x v work (s .buckets) (s .«buckets_used») →
-    y ≡ copied work 0 v (8 * n) (8 * (s .records - n)) → 16384 ≤ length work → s .records ≤ n + 256 → (o : List ℕ) → Aside s o work n → But s o x n → take (8 * s .records) y ≡ take (8 * s .records) o
+pub back : (s : State) (x v y work : List ℕ) (n : ℕ) → Roomy s x work n → Restores x v work (s .buckets) (s .«buckets_used») →
+    y ≡ copied work 0 v (8 * n) (8 * (s .records - n)) → (o : List ℕ) → Aside s o work n → Kept s o x n → take (8 * s .records) y ≡ take (8 * s .records) o
 unfolding copied buckets-of
-back s x v y work n low long rest e room few o a but =
+back s x v y work n room rest e o a but =
     let k : ℕ = 8 * (s .records - n) in
     let sum : 8 * s .records ≡ 8 * n + k = omega arith in
     let lv : length v ≡ length o = rest .same-length ∙ but .same-length in

@@ -7,7 +7,7 @@ use borrow.Fn.Kinds.{Dens, resT, endedOf}
 use denote.Triple.Clauses.{AtExit}
 use contract.Lifetimes.{Lfts}
 use lib.ListN.{length, getD, take}
-use Rattle.encode_undo.specs.Aside.{Aside, But}
+use Rattle.encode_undo.specs.Aside.{Aside, Kept}
 use Rattle.encode_undo.proofs.set_aside.Kinds as set-aside-kinds
 use Rattle.encode_undo.proofs.set_aside.Reads as set-aside
 use Rattle.encode_undo.proofs.put_back.Kinds as put-back-kinds
@@ -26,6 +26,6 @@ set-aside-determined κs a x y e f p q = (
 
 pub put-back-determined : (κs : Lfts 2) (a : Dens κs put-back-kinds.ps) (x y : resT put-back-kinds.r κs .Denot) (e f : AtExit (endedOf 2 put-back-kinds.ps put-back-kinds.r) κs) →
     put-back.Post κs a x e → put-back.Post κs a y f →
-    ((o : List ℕ) → Aside (a .0) o (a .1 .1 .0 .now) (a .1 .1 .1 .0) → But (a .0) o (a .1 .0 .now) (a .1 .1 .1 .0) →
+    ((o : List ℕ) → Aside (a .0) o (a .1 .1 .0 .now) (a .1 .1 .1 .0) → Kept (a .0) o (a .1 .0 .now) (a .1 .1 .1 .0) →
     take (8 * a .0 .records) (e .1 .0 .now) ≡ take (8 * a .0 .records) (f .1 .0 .now)) × (length (e .1 .0 .now) ≡ length (f .1 .0 .now))
 put-back-determined κs a x y e f p q = (λ o h k. p .0 o h k ∙ sym (q .0 o h k), p .1 ∙ sym (q .1))

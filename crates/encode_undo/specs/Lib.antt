@@ -1,2 +1,3 @@
--- What an encode sets aside.
+-- What copying words promises, and what an encode sets aside.
+pub mod Copies
 pub mod Aside

@@ -1,30 +1,66 @@
-// What an encode may overwrite, set aside before it begins and put back where the room ended: the waiting records, and the records
-// of the buckets.
+// What an encode may overwrite, set aside in the work slice before it begins and put back where the room ended: the waiting records,
+// and the records of the buckets.
 ghost use mathlib.Core.Path.{_≡_};
 ghost use mathlib.Core.List.{List};
 ghost use Prim.Native.Nat.{ℕ, _+_, _*_, _≤_};
 ghost use lib.ListN.{length, take};
-ghost use Rattle.rules.specs.Build.{buckets-of};
 ghost use Rattle.laws.specs.Lists.Facts.{All};
-ghost use Rattle.encode_undo.specs.Aside.{Aside, But};
+ghost use Rattle.encode_undo.specs.Copies.{copied, Saves, Restores};
+ghost use Rattle.encode_undo.specs.Aside.{Roomy, Aside, Kept};
 use rules::State;
+
+// n words of one slice, from a on, over those of another from b on. Linear in the words.
+fn copy(from: &[u32], a: usize, to: &mut [u32], b: usize, n: usize)
+    requires { ⌜ (a + n ≤ length (now from)) × (b + n ≤ length (now to)) ⌝ }
+    ensures { λ _. ⌜ now (to .exit) ≡ copied (now (from .entry)) a (now (to .entry)) b n ⌝ }
+{
+    let mut i: usize = 0;
+    while i < n {
+        records::put(to, b + i, records::word(from, a + i));
+        i += 1;
+    }
+}
+
+// The eight words of bucket i to the work words from 2048 + 8 i on. A copy a bucket, at most 20.
+fn save_buckets(s: &[u32], work: &mut [u32], buckets: [u32; 20], used: usize)
+    requires { ⌜ (used ≤ 20) × (2208 ≤ length (now work)) × All (λ b. 8 * b + 8 ≤ length (now s)) (take used buckets) ⌝ }
+    ensures { λ _. ⌜ Saves (now (s .entry)) (now (work .entry)) (now (work .exit)) buckets used ⌝ }
+{
+    let mut i: usize = 0;
+    while i < used {
+        copy(s, 8 * (buckets[i] as usize), work, 2048 + 8 * i, 8);
+        i += 1;
+    }
+}
+
+// The words of the buckets as they were saved. A copy a bucket, at most 20.
+fn restore_buckets(s: &mut [u32], work: &[u32], buckets: [u32; 20], used: usize)
+    requires { ⌜ (used ≤ 20) × (2208 ≤ length (now work)) × All (λ b. 8 * b + 8 ≤ length (now s)) (take used buckets) ⌝ }
+    ensures { λ _. ⌜ Restores (now (s .entry)) (now (s .exit)) (now (work .entry)) buckets used ⌝ }
+{
+    let mut k: usize = 0;
+    while k < used {
+        copy(work, 2048 + 8 * k, s, 8 * (buckets[k] as usize), 8);
+        k += 1;
+    }
+}
 
 // The words of the waiting records, from record n on, and of the buckets copied to the work slice. Linear in the words copied.
 pub fn set_aside(s: State, store: &[u32], work: &mut [u32], n: usize)
-    requires { ⌜ (n ≤ s .records) × (s .records ≤ n + 256) × (8 * s .records ≤ length (now store)) × (16384 ≤ length (now work)) × (s .«buckets_used» ≤ 20) × All (λ b. 8 * b + 8 ≤ length (now store)) (buckets-of s) ⌝ }
+    requires { ⌜ Roomy s (now store) (now work) n ⌝ }
     ensures { λ _. ⌜ Aside s (now (store .entry)) (now (work .exit)) n × (length (now (work .exit)) ≡ length (now (work .entry))) ⌝ }
 {
-    encode_save::copy(store, 8 * n, work, 0, 8 * (s.records - n));
+    copy(store, 8 * n, work, 0, 8 * (s.records - n));
     let buckets = s.buckets;
-    encode_save::save_buckets(store, work, buckets, s.buckets_used as usize);
+    save_buckets(store, work, buckets, s.buckets_used as usize);
 }
 
-// And put back. Linear in the words copied.
+// Those words copied back to the store. Linear in the words copied.
 pub fn put_back(s: State, store: &mut [u32], work: &[u32], n: usize)
-    requires { ⌜ (n ≤ s .records) × (s .records ≤ n + 256) × (8 * s .records ≤ length (now store)) × (16384 ≤ length (now work)) × (s .«buckets_used» ≤ 20) × All (λ b. 8 * b + 8 ≤ length (now store)) (buckets-of s) ⌝ }
-    ensures { λ _. ⌜ ((o : List ℕ) → Aside s o (now (work .entry)) n → But s o (now (store .entry)) n → take (8 * s .records) (now (store .exit)) ≡ take (8 * s .records) o) × (length (now (store .exit)) ≡ length (now (store .entry))) ⌝ }
+    requires { ⌜ Roomy s (now store) (now work) n ⌝ }
+    ensures { λ _. ⌜ ((o : List ℕ) → Aside s o (now (work .entry)) n → Kept s o (now (store .entry)) n → take (8 * s .records) (now (store .exit)) ≡ take (8 * s .records) o) × (length (now (store .exit)) ≡ length (now (store .entry))) ⌝ }
 {
     let buckets = s.buckets;
-    encode_save::restore_buckets(store, work, buckets, s.buckets_used as usize);
-    encode_save::copy(work, 0, store, 8 * n, 8 * (s.records - n));
+    restore_buckets(store, work, buckets, s.buckets_used as usize);
+    copy(work, 0, store, 8 * n, 8 * (s.records - n));
 }

@@ -17,7 +17,7 @@ use Rattle.rules.specs.Build.{Build, records, tares-of, buckets-of, held, build
 use Rattle.rules.specs.Enforce.{root-answer, built-answer, one-answer, enforce}
 use Rattle.laws.specs.Lists.Facts.{All, All-map, All-second}
 use Rattle.records.specs.Carries.{Stores}
-use Rattle.precision_steps.specs.Read.{Readable}
+use Rattle.records_waiting.specs.Read.{Readable}
 use Rattle.enforce_answer.specs.declared.Answered.{Answered}
 use Rattle.enforce_answer.specs.Ends.{Ended}
 use Rattle.enforce_answer.specs.Has.{Has}

@@ -12,7 +12,7 @@ ghost use Rattle.rules.specs.Build.{Build, buildOf, root};
 ghost use Rattle.rules.specs.Enforce.{set-tares, one-answer, root-answer, built-answer, enforce};
 ghost use Rattle.laws.specs.Lists.Facts.{All};
 ghost use Rattle.records.specs.Words.{buf};
-ghost use Rattle.precision_steps.specs.Read.{Readable};
+ghost use Rattle.records_waiting.specs.Read.{Readable};
 ghost use Rattle.enforce_answer.specs.Tares.{tare-step};
 ghost use Rattle.enforce_answer.specs.Ends.{Ended};
 ghost use Rattle.enforce_answer.specs.Has.{Has};
@@ -113,7 +113,7 @@ fn one_answer(store: &[u32], records: usize, c: &mut [i32], u: u64) -> Answered
     ensures { λ r. ⌜ ((b : Build) (x : ℤ) → Has b (now (store .entry)) records → nodeAt (b .arena .records) 0 .kind ≡ leaf x →
         Ended (some (one-answer b u)) (now (c .entry)) (now (c .exit)) r) ⌝ }
 {
-    if precision_steps::largest(store, records) as u64 <= u {
+    if records_waiting::largest(store, records) as u64 <= u {
         return Answered {
             count: 0,
             refusal: 0,
@@ -177,7 +177,7 @@ fn built_answer(s: rules::State, store: &[u32], c: &mut [i32], u: u64) -> Answer
             refusal: 11,
         };
     }
-    if s.set <= precision_steps::largest(store, s.records) as u64 {
+    if s.set <= records_waiting::largest(store, s.records) as u64 {
         return Answered {
             count: 0,
             refusal: 11,

@@ -7,33 +7,16 @@ use contract.Lifetimes.{Lfts}
 use Rattle.rules.specs.Records.{Record}
 use Rattle.records.specs.Carries.{Stores}
 use Rattle.numbers.proofs.Determined.{One-result}
-use Rattle.precision_steps.proofs.largest.Kinds as largest-kinds
-use Rattle.precision_steps.proofs.largest.Reads as largest
-use Rattle.precision_steps.proofs.some_wait.Kinds as some-wait-kinds
-use Rattle.precision_steps.proofs.some_wait.Reads as some-wait
 use Rattle.precision_steps.proofs.next.Kinds as next-kinds
 use Rattle.precision_steps.proofs.next.Reads as next
-use Rattle.precision_steps.proofs.coarse_at.Kinds as coarse-at-kinds
-use Rattle.precision_steps.proofs.coarse_at.Reads as coarse-at
 use Rattle.precision_steps.proofs.coarse.Kinds as coarse-kinds
 use Rattle.precision_steps.proofs.coarse.Reads as coarse
 use Rattle.precision_steps.proofs.set.Kinds as set-kinds
 use Rattle.precision_steps.proofs.set.Reads as set
 
-pub largest-determined : (κs : Lfts 1) (a : Dens κs largest-kinds.ps) (x y : resT largest-kinds.r κs .Denot) (e f : AtExit (endedOf 1 largest-kinds.ps largest-kinds.r) κs) →
-    largest.Post κs a x e → largest.Post κs a y f → (rs : List Record) → Stores (a .0 .now) (a .1 .0) rs → x ≡ y
-largest-determined κs a x y e f p q rs h = p rs h ∙ sym (q rs h)
-
-pub some-wait-determined : (κs : Lfts 1) (a : Dens κs some-wait-kinds.ps) (x y : resT some-wait-kinds.r κs .Denot) (e f : AtExit (endedOf 1 some-wait-kinds.ps some-wait-kinds.r) κs) →
-    some-wait.Post κs a x e → some-wait.Post κs a y f → (rs : List Record) → Stores (a .0 .now) (a .1 .0) rs → x ≡ y
-some-wait-determined κs a x y e f p q rs h = p rs h ∙ sym (q rs h)
-
 pub next-determined : (κs : Lfts 1) (a : Dens κs next-kinds.ps) (x y : resT next-kinds.r κs .Denot) (e f : AtExit (endedOf 1 next-kinds.ps next-kinds.r) κs) →
     next.Post κs a x e → next.Post κs a y f → (rs : List Record) → Stores (a .0 .now) (a .1 .0) rs → x ≡ y
 next-determined κs a x y e f p q rs h = p rs h ∙ sym (q rs h)
-
-pub coarse-at-determined : One-result 0 coarse-at-kinds.ps coarse-at-kinds.r coarse-at.Post
-coarse-at-determined κs a x y e f p q = p ∙ sym q
 
 pub coarse-determined : One-result 0 coarse-kinds.ps coarse-kinds.r coarse.Post
 coarse-determined κs a x y e f p q = p ∙ sym q

@@ -1,6 +1,4 @@
--- The laws of what waits, of the coarse bound and of a divisor set, and that what is well formed can be read.
-pub mod Waiting
+-- The laws of the coarse bound and of a divisor set.
 pub mod Bound
 pub mod Divisor
-pub mod Whole
 pub mod Determined

@@ -1,82 +1,27 @@
-// The answers of the precision calls over a build that is well formed: what waits, the next divisor, a coarse bound, a divisor set.
+// The answers of the precision calls over a build that is well formed: the next divisor, a coarse bound, a divisor set.
 ghost use mathlib.Core.Path.{_≡_};
 ghost use mathlib.Core.Bool.{cond, not, _&&_};
 ghost use mathlib.Core.List.{List, [], _∷_};
-ghost use Prim.Native.Nat.{_≤_, _^_, max};
+ghost use Prim.Native.Nat.{_≤_, _^_};
 ghost use lib.Dec.{eqb, ltb};
-ghost use lib.ListN.{getD};
 ghost use Rattle.rules.specs.Numbers.{divisor-of};
 ghost use Rattle.rules.specs.Digits.{top-bit};
-ghost use Rattle.rules.specs.Records.{Record, unknown, waits, entries};
-ghost use Rattle.rules.specs.Build.{largest, some-wait};
+ghost use Rattle.rules.specs.Records.{Record, entries};
+ghost use Rattle.rules.specs.Build.{largest};
 ghost use Rattle.rules.specs.Refusals.{first-of, divisor-unlawful};
 ghost use Rattle.rules.specs.Precision.{set-end, with-set};
 ghost use Rattle.rules.specs.Coarse.{coarse-at};
 ghost use Rattle.records.specs.Carries.{Stores};
-ghost use Rattle.precision_steps.specs.Weight.{weight-of};
-
-// Whether record i is a waiting entry. Constant time.
-pub fn waits(store: &[u32], records: usize, i: usize) -> bool
-    ensures { λ r. ⌜ ((rs : List Record) → Stores (now (store .entry)) records rs → r ≡ waits (getD rs i unknown)) ⌝ }
-{
-    records::field(store, records, i, 0) == 5
-}
-
-// The weight of record i, 0 where it is no waiting entry.
-fn weight(store: &[u32], records: usize, i: usize) -> u32
-    ensures { λ r. ⌜ ((rs : List Record) → Stores (now (store .entry)) records rs → r ≡ weight-of (getD rs i unknown)) ⌝ }
-{
-    if records::field(store, records, i, 0) != 5 {
-        return 0;
-    }
-    records::field(store, records, i, 2)
-}
-
-fn larger(x: u32, y: u32) -> u32
-    ensures { λ r. ⌜ r ≡ max x y ⌝ }
-{
-    if x < y {
-        return y;
-    }
-    x
-}
-
-// The largest waiting weight, 0 where nothing waits. Linear in the records.
-pub fn largest(store: &[u32], records: usize) -> u32
-    ensures { λ r. ⌜ ((rs : List Record) → Stores (now (store .entry)) records rs → r ≡ largest (entries rs)) ⌝ }
-{
-    let mut most: u32 = 0;
-    let mut i: usize = 0;
-    while i < records {
-        most = larger(most, weight(store, records, i));
-        i += 1;
-    }
-    most
-}
-
-// Whether something waits. Linear in the records.
-pub fn some_wait(store: &[u32], records: usize) -> bool
-    ensures { λ r. ⌜ ((rs : List Record) → Stores (now (store .entry)) records rs → r ≡ some-wait (entries rs)) ⌝ }
-{
-    let mut i: usize = 0;
-    while i < records {
-        if waits(store, records, i) {
-            return true;
-        }
-        i += 1;
-    }
-    false
-}
 
 // The next divisor: the top power of the largest waiting weight, 1 where nothing waits. Linear in the records.
 pub fn next(store: &[u32], records: usize) -> u64
     ensures { λ r. ⌜ ((rs : List Record) → Stores (now (store .entry)) records rs → r ≡ 2 ^ top-bit (largest (entries rs))) ⌝ }
 {
-    numbers::power(numbers::top_bit(largest(store, records) as u64))
+    numbers::power(numbers::top_bit(records_waiting::largest(store, records) as u64))
 }
 
 // The bound that outputs of weight w can hold. Constant time.
-pub fn coarse_at(w: u64, u: u64) -> u64
+fn coarse_at(w: u64, u: u64) -> u64
     ensures { λ r. ⌜ r ≡ coarse-at w u ⌝ }
 {
     if w == 0 {

@@ -13,8 +13,8 @@ use Rattle.rules.specs.Refinement.{merge-structures}
 use Rattle.records.specs.Carries.{St, st, marksOf, Fits, Holds}
 use Rattle.records.proofs.Grow.{fits-or}
 use Rattle.records.proofs.Entry.{holds-same}
-use Rattle.encode_begin.specs.declared.Structure.{Structure}
-use Rattle.encode_begin.proofs.Determined.{Same-named, named-same as names-same}
+use Rattle.build_begin.specs.declared.Structure.{Structure}
+use Rattle.build_begin.proofs.Determined.{Same-named, named-same as names-same}
 use Rattle.refine_structure.specs.Refined.{Renews, Refines}
 use Rattle.refine_structure.proofs.Bases.{based-fits, fits-based, based-holds}
 use Rattle.refine_structure.proofs.merge_structures.Kinds as kinds

@@ -31,9 +31,9 @@ use Rattle.build_queue.proofs.Waiting.{queued-start}
 use Rattle.build_buckets.proofs.Words.{made-length}
 use Rattle.build_tower.specs.declared.Segment.{Segment}
 use Rattle.build_tower.specs.Rule.{tower}
-use Rattle.encode_begin.specs.declared.Structure.{Structure}
-use Rattle.encode_begin.specs.Named.{begun, Named}
-use Rattle.encode_begin.proofs.Begin.{entry, image-is}
+use Rattle.build_begin.specs.declared.Structure.{Structure}
+use Rattle.build_begin.specs.Named.{marks-at, Named}
+use Rattle.build_begin.proofs.Begin.{entry, image-is}
 use Rattle.refine_structure.specs.Refined.{added, spare, Spans, renew, Ready, Renews, Refinable, Refines}
 use Rattle.refine_structure.proofs.Bases.{fits-based}
 use Rattle.refine_structure.proofs.Segments.{finer, after, made, tower-is, merged-is, right, fits-after, merged-tares, merged-buckets, merged-queue}
@@ -66,11 +66,11 @@ module _ (s : State) (store : List ℕ) (clauses : List ℤ) (work : List ℕ) (
   buckets-count = slots-count 20 (s .«buckets_used») (s .buckets) (g .well .laid .buckets-few) (g .well .laid .buckets-laid)
 
   fresh-is : m .fresh ≡ b .arena .fresh
-  unfolding buildOf build-over begun
+  unfolding buildOf build-over marks-at
   fresh-is = ap (λ (x : Marks). x .fresh) (g .marks-are)
 
   records-is : m .records ≡ length (b .arena .records)
-  unfolding begun
+  unfolding marks-at
   records-is = ap (λ (x : Marks). x .records) (g .marks-are)
 
   within-19 : top-bit (b .built) + length (b .tares) ≤ 19
@@ -242,12 +242,14 @@ module _ (s : State) (store : List ℕ) (clauses : List ℤ) (work : List ℕ) (
               let is : made-in work′ (t .used) ≡ new = ap (λ (y : List ℕ × List Entry). y .0) (towered .1 x) in
               let count : length (made-in work′ (t .used)) ≡ t .used = made-length work′ (t .used) (omega (arith, few, within .1)) (omega (arith, long, g .long)) in
               record {
-                tares-are = tares-are ∙ ap (padded 0 19) (sym (merged-tares b f built reach));
-                tares-many = omega (arith, ap length (merged-tares b f built reach), length-append fresh (b .tares), rising-length (added s) (b .arena .fresh), tares-count, em);
-                buckets-are =
-                    ek bs buckets-count (sym (g .well .laid .buckets-laid)) ∙
-                    (ap (λ (xs : List ℕ). padded 0 20 (bs ++ xs)) is ∙ ap (padded 0 20) (sym (merged-buckets b f built reach)));
-                buckets-many = omega (arith, ap length (merged-buckets b f built reach), length-append (b .buckets) new, ap length is, count, buckets-count);
+                slots = record {
+                  tares-are = tares-are ∙ ap (padded 0 19) (sym (merged-tares b f built reach));
+                  tares-many = omega (arith, ap length (merged-tares b f built reach), length-append fresh (b .tares), rising-length (added s) (b .arena .fresh), tares-count, em);
+                  buckets-are =
+                      ek bs buckets-count (sym (g .well .laid .buckets-laid)) ∙
+                      (ap (λ (xs : List ℕ). padded 0 20 (bs ++ xs)) is ∙ ap (padded 0 20) (sym (merged-buckets b f built reach)));
+                  buckets-many = omega (arith, ap length (merged-buckets b f built reach), length-append (b .buckets) new, ap length is, count, buckets-count);
+                };
                 queue-is = ap (λ (y : List ℕ × List Entry). y .1) (towered .1 x) ∙ sym (merged-queue b f built reach);
               }
 

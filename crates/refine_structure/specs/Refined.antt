@@ -20,8 +20,8 @@ use Rattle.laws.specs.WellFormed.Plain.{WellFormed}
 use Rattle.records.specs.declared.Marks.{Marks}
 use Rattle.records.specs.Carries.{St, Fits, Carries, with-records}
 use Rattle.build_line.specs.Work.{line, count-at}
-use Rattle.encode_begin.specs.declared.Structure.{Structure}
-use Rattle.encode_begin.specs.Named.{begun, Named}
+use Rattle.build_begin.specs.declared.Structure.{Structure}
+use Rattle.build_begin.specs.Named.{marks-at, Named}
 use Rattle.refine_structure.specs.Based.{Based}
 
 -- how many powers a refinement adds below the old ones; each gets a new tare
@@ -74,7 +74,7 @@ pub record Refinable (s : State) (store : List ℕ) (clauses : List ℤ) (work :
   pub well : WellFormed s store clauses
   pub built : s .built ≢ 0
   pub reach : s .set ≤ largest (buildOf s store .queue)
-  pub marks-are : m ≡ begun s (length (buildOf s store .arena .records))
+  pub marks-are : m ≡ marks-at s (length (buildOf s store .arena .records))
   pub long : 13312 ≤ length work
   pub head : h ≤ 512
   pub queue-is : line work h ≡ sort heavier (buildOf s store .queue)

@@ -16,8 +16,8 @@ ghost use Rattle.build_line.specs.Work.{line, members-from, made-in};
 ghost use Rattle.build_queue.specs.Queued.{Queued};
 ghost use Rattle.build_tower.specs.Rule.{tower};
 ghost use Rattle.refine_structure.specs.Refined.{added, spare, Spans, renew, Ready, Renews, Refinable, Refines};
+use build_begin::Structure;
 use build_tower::Segment;
-use encode_begin::Structure;
 use records::Marks;
 use rules::State;
 

@@ -1,8 +1,3 @@
--- The laws of an encode.
-pub mod Rest
-pub mod Room
-pub mod Ends
-pub mod States
-pub mod Tests
-pub mod Finals
+-- The ends of an encode that write nothing, and that its promise leaves nothing open.
+pub mod Plain
 pub mod Determined

@@ -12,7 +12,7 @@ use Rattle.laws.specs.WellFormed.Plain.{WellFormed}
 use Rattle.laws.specs.WellFormed.Whole.{well-formed-facts}
 use Rattle.laws.specs.WellFormed.ToPlain.{slots-count}
 use Rattle.records.specs.Carries.{Stores}
-use Rattle.precision_steps.proofs.Whole.{readable}
+use Rattle.records_waiting.proofs.Whole.{readable}
 
 module _ (s : State) (store : List ℕ) (clauses : List ℤ) (formed : well-formed s store clauses ≡ true) where
   facts : WellFormed s store clauses

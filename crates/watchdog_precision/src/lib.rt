@@ -33,7 +33,7 @@ pub fn is_max_precision(s: State, store: &[u32], clauses: &[i32]) -> Maximum
     if !check_well_formed::well_formed(s, store, clauses) {
         return Maximum::Refused(12);
     }
-    if precision_steps::some_wait(store, s.records) {
+    if records_waiting::some_wait(store, s.records) {
         return Maximum::No;
     }
     Maximum::Yes

@@ -13,16 +13,20 @@ use Rattle.encode_outputs.proofs.all_defined.Statement.{statement}
 use Rattle.encode_outputs.proofs.all_defined.Tie as tie
 
 abbrev Inv-loop : tie.InvT-loop
-Inv-loop s records node first many v₀ k₀ v k = ((rs : List Record) → Stores s records rs → all-defined rs node (rising k v) ≡ all-defined rs node (rising many first)) × (v + k ≡ first + many)
+Inv-loop store records node v₀ k₀ v k =
+    ((rs : List Record) → Stores store records rs → all-defined rs node (rising k v) ≡ all-defined rs node (rising k₀ v₀)) × (v + k ≡ v₀ + k₀)
 
 abbrev μ-loop : tie.MeasureT-loop
-μ-loop s records node first many v₀ k₀ v k = k
+μ-loop store records node v₀ k₀ v k = k
+
+cast-v : tie.Need-cast-v Inv-loop μ-loop
+cast-v c = search needs
 
 loop-holds : tie.Need-loop-holds Inv-loop μ-loop
 loop-holds c = (λ rs h. refl, omega arith)
 
 cast-find : tie.Need-cast-find Inv-loop μ-loop
-cast-find c = omega (arith, c .loop-test .taken, c .before .loop .inv .1, c .before .before .before .pre)
+cast-find c = omega (arith, c .loop-test .taken, c .before .loop .inv .1, c .before .before .before .before .pre)
 
 find-requires : tie.Need-find-requires Inv-loop μ-loop
 find-requires c κs = search needs
@@ -31,7 +35,7 @@ returns : tie.Need-returns Inv-loop μ-loop
 returns c = λ rs h. defined-stop rs _ _ _ _ (c .before .before .loop-test .taken) (c .before .find .ensures rs h) (c .if1 .taken) ∙ c .before .before .before .loop .inv .0 rs h
 
 add-v : tie.Need-add-v Inv-loop μ-loop
-add-v c = omega (arith, c .before .before .loop-test .taken, c .before .before .before .loop .inv .1, c .before .before .before .before .before .pre)
+add-v c = omega (arith, c .before .before .loop-test .taken, c .before .before .before .loop .inv .1, c .before .before .before .before .before .before .pre)
 
 sub-k : tie.Need-sub-k Inv-loop μ-loop
 sub-k c = omega (arith, c .before .before .loop-test .taken)
@@ -54,6 +58,7 @@ all-defined-spec =
     (tie.spec
     Inv-loop
     μ-loop
+    cast-v
     loop-holds
     cast-find
     find-requires

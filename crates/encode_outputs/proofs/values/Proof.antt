@@ -12,38 +12,38 @@ power-requires : tie.Need-power-requires
 power-requires c κs = search needs
 
 div-low : tie.Need-div-low
-div-low c = omega (arith, power-some _ _ (omega (arith, c .before .pre .0)) (c .power .ensures))
+div-low c = omega (arith, power-some _ _ (omega (arith, c .before .before .pre .0)) (c .before .power .ensures))
 
 returns : tie.Need-returns
-returns c = (values-none _ _ _ _ _ (c .before .before .pre .0) (c .before .power .ensures) (c .if1 .taken), omega arith)
+returns c = (values-none _ _ _ _ _ (c .before .before .before .pre .0) (c .before .before .power .ensures) (c .if1 .taken), omega arith)
 
 sub-lower : tie.Need-sub-lower
 sub-lower c = search needs
 
 div-lower : tie.Need-div-lower
-div-lower c = omega (arith, power-some _ _ (omega (arith, c .before .before .pre .0)) (c .before .power .ensures))
+div-lower c = omega (arith, power-some _ _ (omega (arith, c .before .before .before .before .pre .0)) (c .before .before .before .power .ensures))
 
 add-lower : tie.Need-add-lower
-add-lower c = omega (arith, div-le-self (c .before .before .args .end - 1) (c .before .power .result))
+add-lower c = omega (arith, div-le-self (c .before .before .before .before .args .range .end - 1) (c .before .before .before .power .result))
 
 lower-requires : tie.Need-lower-requires
 lower-requires c κs = search needs
 
-add-t8 : tie.Need-add-t8
-add-t8 c = search needs
+add-t7 : tie.Need-add-t7
+add-t7 c = search needs
 
-cast-t13 : tie.Need-cast-t13
-cast-t13 c = search needs
+cast-t12 : tie.Need-cast-t12
+cast-t12 c = search needs
 
-sub-t12 : tie.Need-sub-t12
-sub-t12 c =
-    let power = c .before .before .power in
-    let args = c .before .before .before .args in
-    let pre = c .before .before .before .pre in
-    omega (arith, c .lower .ensures, c .before .if1 .left, divided-low (args .lo) (args .end - 1) (power .result) (power-some _ _ (omega (arith, pre .0)) (power .ensures)) (omega (arith, pre .1)))
+sub-t11 : tie.Need-sub-t11
+sub-t11 c =
+    let power = c .before .before .before .before .power in
+    let args = c .before .before .before .before .before .args in
+    let pre = c .before .before .before .before .before .pre in
+    omega (arith, c .lower .ensures, c .before .before .if1 .left, divided-low (args .range .lo) (args .range .end - 1) (power .result) (power-some _ _ (omega (arith, pre .0)) (power .ensures)) (omega (arith, pre .1)))
 
 returns-2 : tie.Need-returns-2
-returns-2 c = (values-some _ _ _ _ _ (c .before .before .before .pre .0) (c .before .before .power .ensures) _ (c .lower .ensures), omega (arith, c .lower .ensures, c .before .if1 .left))
+returns-2 c = (values-some _ _ _ _ _ (c .before .before .before .before .before .pre .0) (c .before .before .before .before .power .ensures) _ (c .lower .ensures), omega (arith, c .lower .ensures, c .before .before .if1 .left))
 
 pub values-spec : {M : Type 1} → statement M
 values-spec =
@@ -56,7 +56,7 @@ values-spec =
     div-lower
     add-lower
     lower-requires
-    add-t8
-    cast-t13
-    sub-t12
+    add-t7
+    cast-t12
+    sub-t11
     returns-2)

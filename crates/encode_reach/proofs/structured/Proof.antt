@@ -1,14 +1,14 @@
 -- `structured` builds or refines over the queue.
 use mathlib.Core.Path.{_∙_}
 use native.Mathlib.Omega.{arith}
-use Rattle.encode_reach.proofs.Standing.{few-wait}
-use Rattle.encode_reach.proofs.Ways.{ready, refinable, first-structured, refined-structured, begun-fresh, entered-by, refines-by}
+use Rattle.encode_reach.proofs.Stands.{few-wait}
+use Rattle.encode_reach.proofs.Ways.{ready, refinable, first-structured, refined-structured, marks-at-fresh, entered-by, refines-by}
 use borrow.Author.Needs.{needs}
 use Rattle.encode_reach.proofs.structured.Statement.{statement}
 use Rattle.encode_reach.proofs.structured.Tie as tie
 
-begun-requires : tie.Need-begun-requires
-begun-requires c κs = search needs
+marks-at-requires : tie.Need-marks-at-requires
+marks-at-requires c κs = search needs
 
 queued-requires : tie.Need-queued-requires
 queued-requires c κs =
@@ -21,7 +21,7 @@ build-structure-requires c κs =
     let queued = c .before .before .before .before .before .before .queued in
     let args = c .before .before .before .before .before .before .before .before .before .before .before .before .args in
     let pre = c .before .before .before .before .before .before .before .before .before .before .before .before .pre in
-    (ready (args .s) (args .store .now) (args .clauses .now) (pre .0) _ (pre .1) (pre .2) _ _ (omega (arith, queued .ensures .2, pre .3)) (queued .ensures .3) (queued .ensures .0) (queued .ensures .1), begun-fresh _ _ _ (c .before .before .before .before .before .before .before .before .before .begun .ensures))
+    (ready (args .s) (args .store .now) (args .clauses .now) (pre .0) _ (pre .1) (pre .2) _ _ (omega (arith, queued .ensures .2, pre .3)) (queued .ensures .3) (queued .ensures .0) (queued .ensures .1), marks-at-fresh _ _ _ (c .before .before .before .before .before .before .before .before .before .marks-at .ensures))
 
 same-length : tie.Need-same-length
 same-length c = search needs
@@ -34,14 +34,14 @@ returns c =
     let build-structure = c .before .before .before .before .build-structure in
     let args = c .before .before .before .before .before .before .before .before .before .before .before .before .before .before .before .before .before .args in
     let pre = c .before .before .before .before .before .before .before .before .before .before .before .before .before .before .before .before .before .pre in
-    (first-structured (args .s) (args .store .now) _ _ _ _ (c .before .before .before .before .before .before .before .if1 .taken) (build-structure .ensures .0 _ _ (entered-by (args .s) (args .store .now) (args .clauses .now) (pre .0) _ (pre .1) _ (c .before .before .before .before .before .before .before .before .before .before .before .before .before .before .begun .ensures))), build-structure .ensures .1 ∙ c .before .before .before .before .before .before .before .before .before .before .before .queued .ensures .2, build-structure .ensures .2, build-structure .ensures .3)
+    (first-structured (args .s) (args .store .now) _ _ _ _ (c .before .before .before .before .before .before .before .if1 .taken) (build-structure .ensures .0 _ _ (entered-by (args .s) (args .store .now) (args .clauses .now) (pre .0) _ (pre .1) _ (c .before .before .before .before .before .before .before .before .before .before .before .before .before .before .marks-at .ensures))), build-structure .ensures .1 ∙ c .before .before .before .before .before .before .before .before .before .before .before .queued .ensures .2, build-structure .ensures .2, build-structure .ensures .3)
 
 merge-structures-requires : tie.Need-merge-structures-requires
 merge-structures-requires c κs =
     let queued = c .before .before .before .before .before .before .before .queued in
     let args = c .before .before .before .before .before .before .before .before .before .before .before .before .before .args in
     let pre = c .before .before .before .before .before .before .before .before .before .before .before .before .before .pre in
-    refinable (args .s) (args .store .now) (args .clauses .now) (pre .0) _ (pre .1) (pre .2) _ _ (omega (arith, queued .ensures .2, pre .3)) (queued .ensures .3) (queued .ensures .0) (queued .ensures .1) _ (c .before .before .before .before .before .before .before .before .before .before .begun .ensures) (c .before .before .before .if1 .left)
+    refinable (args .s) (args .store .now) (args .clauses .now) (pre .0) _ (pre .1) (pre .2) _ _ (omega (arith, queued .ensures .2, pre .3)) (queued .ensures .3) (queued .ensures .0) (queued .ensures .1) _ (c .before .before .before .before .before .before .before .before .before .before .marks-at .ensures) (c .before .before .before .if1 .left)
 
 same-length-3 : tie.Need-same-length-3
 same-length-3 c = search needs
@@ -56,13 +56,13 @@ returns-2 : tie.Need-returns-2
 returns-2 c =
     let merge-structures = c .before .before .before .before .before .merge-structures in
     let args = c .before .before .before .before .before .before .before .before .before .before .before .before .before .before .before .before .before .before .before .args in
-    (refined-structured (args .s) (args .store .now) _ _ _ _ (c .before .before .before .before .before .before .before .before .before .if1 .left) (c .before .before .before .before .before .before .before .before .before .before .before .before .before .before .before .before .before .before .before .pre .2) (refines-by _ _ _ _ _ _ _ _ (c .before .before .before .before .before .before .before .before .before .before .before .before .before .before .before .before .begun .ensures) (merge-structures .ensures .0)), merge-structures .ensures .1 ∙ c .before .before .before .before .before .before .before .before .before .before .before .before .before .queued .ensures .2, merge-structures .ensures .2, merge-structures .ensures .3)
+    (refined-structured (args .s) (args .store .now) _ _ _ _ (c .before .before .before .before .before .before .before .before .before .if1 .left) (c .before .before .before .before .before .before .before .before .before .before .before .before .before .before .before .before .before .before .before .pre .2) (refines-by _ _ _ _ _ _ _ _ (c .before .before .before .before .before .before .before .before .before .before .before .before .before .before .before .before .marks-at .ensures) (merge-structures .ensures .0)), merge-structures .ensures .1 ∙ c .before .before .before .before .before .before .before .before .before .before .before .before .before .queued .ensures .2, merge-structures .ensures .2, merge-structures .ensures .3)
 
 pub structured-spec : {M : Type 1} → statement M
 structured-spec =
     tie.close
     (tie.spec
-    begun-requires
+    marks-at-requires
     queued-requires
     build-structure-requires
     same-length

@@ -14,7 +14,7 @@ restore-buckets-requires : tie.Need-restore-buckets-requires
 unfolding buckets-of
 restore-buckets-requires c κs =
     let pre = c .before .before .before .before .before .pre in
-    (pre .4, omega (arith, pre .3), pre .5)
+    (pre .buckets-few, omega (arith, pre .long), pre .buckets-within)
 
 mul-copy : tie.Need-mul-copy
 mul-copy c = search needs
@@ -37,7 +37,7 @@ returns c =
     let restore-buckets = c .before .before .before .before .before .before .before .restore-buckets in
     let args = c .before .before .before .before .before .before .before .before .before .before .before .before .before .args in
     let pre = c .before .before .before .before .before .before .before .before .before .before .before .before .before .pre in
-    (back (args .s) (args .store .now) _ _ (args .work .now) (args .n) (pre .0) (pre .2) (restore-buckets .ensures) (copy .ensures) (pre .3) (pre .1), copy .kept .1 .1 .0 ∙ restore-buckets .kept .0)
+    (back (args .s) (args .store .now) _ _ (args .work .now) (args .n) pre (restore-buckets .ensures) (copy .ensures), copy .kept .1 .1 .0 ∙ restore-buckets .kept .0)
 
 pub put-back-spec : {M : Type 1} → statement M
 put-back-spec =

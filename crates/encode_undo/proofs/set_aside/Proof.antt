@@ -25,7 +25,7 @@ save-buckets-requires : tie.Need-save-buckets-requires
 unfolding buckets-of
 save-buckets-requires c κs =
     let pre = c .before .before .before .before .before .before .before .before .before .before .pre in
-    (pre .4, omega (arith, pre .3, c .before .before .before .before .before .copy .kept), pre .5)
+    (pre .buckets-few, omega (arith, pre .long, c .before .before .before .before .before .copy .kept), pre .buckets-within)
 
 same-length : tie.Need-same-length
 same-length c = search needs
@@ -34,7 +34,7 @@ returns : tie.Need-returns
 returns c =
     let args = c .before .before .before .before .before .before .before .before .before .before .before .before .before .args in
     let pre = c .before .before .before .before .before .before .before .before .before .before .before .before .before .pre in
-    aside (args .s) (args .store .now) (args .work .now) _ _ (args .n) (pre .0) (pre .1) (pre .2) (pre .3) (c .before .before .before .before .before .before .before .before .copy .ensures) (c .before .before .save-buckets .ensures)
+    aside (args .s) (args .store .now) (args .work .now) _ _ (args .n) pre (c .before .before .before .before .before .before .before .before .copy .ensures) (c .before .before .save-buckets .ensures)
 
 pub set-aside-spec : {M : Type 1} → statement M
 set-aside-spec =

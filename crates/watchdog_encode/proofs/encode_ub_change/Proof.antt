@@ -1,13 +1,10 @@
 -- `encode_ub_change` refuses in order, does nothing where nothing is to do, and else carries out.
 use mathlib.Core.Path.{sym, _∙_}
 use borrow.Author.Tests.{not-true, not-false}
-use Rattle.rules.specs.Refusals.{answer-of}
 use Rattle.rules.specs.Build.{buildOf}
-use Rattle.rules.specs.Encode.{encoded}
-use Rattle.laws.specs.WellFormed.Whole.{well-formed-facts}
-use Rattle.watchdog_encode.proofs.Ends.{refused-12, refused-6, refused-10}
-use Rattle.watchdog_encode.proofs.Tests.{asked-range, idle-fits}
-use Rattle.watchdog_encode.proofs.Finals.{plain-end, unasked, idled}
+use Rattle.rules.specs.Refusals.{answer-of}
+use Rattle.encode_case.proofs.Tests.{asked-range}
+use Rattle.watchdog_encode.proofs.Plain.{call, ends-12, ends-6, unasked, asks, due-is, ends-10, begins, idled, works}
 use borrow.Author.Needs.{needs}
 use Rattle.watchdog_encode.proofs.encode_ub_change.Statement.{statement}
 use Rattle.watchdog_encode.proofs.encode_ub_change.Tie as tie
@@ -25,10 +22,11 @@ same-length-2 : tie.Need-same-length-2
 same-length-2 c = search needs
 
 returns : tie.Need-returns
-unfolding encoded answer-of
+unfolding answer-of
 returns c =
     let args = c .before .before .before .before .before .before .before .args in
-    plain-end (args .s) (args .store .now) (args .clauses .now) (args .work .now) 12 _ _ (c .encoded .ensures) (refused-12 (args .s) (args .store .now) (args .clauses .now) (args .work .now) _ _ (sym (c .before .before .well-formed .ensures) ∙ not-true _ (c .before .if1 .taken)))
+    let k = call (args .s) (args .store .now) (args .clauses .now) (args .work .now) (args .lo) (args .end) in
+    ends-12 k _ (c .encoded .ensures) (sym (c .before .before .well-formed .ensures) ∙ not-true _ (c .before .if1 .taken))
 
 encoded-requires-2 : tie.Need-encoded-requires-2
 encoded-requires-2 c κs = search needs
@@ -40,10 +38,11 @@ same-length-4 : tie.Need-same-length-4
 same-length-4 c = search needs
 
 returns-2 : tie.Need-returns-2
-unfolding encoded answer-of
+unfolding answer-of
 returns-2 c =
     let args = c .before .before .before .before .before .before .before .before .args in
-    plain-end (args .s) (args .store .now) (args .clauses .now) (args .work .now) 6 _ _ (c .encoded2 .ensures) (refused-6 (args .s) (args .store .now) (args .clauses .now) (args .work .now) _ _ (sym (c .before .before .before .well-formed .ensures) ∙ not-false _ (c .before .before .if1 .left)) (c .before .if2 .taken))
+    let k = call (args .s) (args .store .now) (args .clauses .now) (args .work .now) (args .lo) (args .end) in
+    ends-6 k (sym (c .before .before .before .well-formed .ensures) ∙ not-false _ (c .before .before .if1 .left)) _ (c .encoded2 .ensures) (c .before .if2 .taken)
 
 nothing-asked-requires : tie.Need-nothing-asked-requires
 nothing-asked-requires c κs = search needs
@@ -58,13 +57,14 @@ same-length-6 : tie.Need-same-length-6
 same-length-6 c = search needs
 
 returns-3 : tie.Need-returns-3
-unfolding encoded answer-of
+unfolding answer-of
 returns-3 c =
     let args = c .before .before .before .before .before .before .before .before .before .before .args in
-    plain-end (args .s) (args .store .now) (args .clauses .now) (args .work .now) 0 _ _ (c .encoded3 .ensures) (unasked (args .s) (args .store .now) (args .clauses .now) (args .work .now) _ _ (sym (c .before .before .before .before .before .well-formed .ensures) ∙ not-false _ (c .before .before .before .before .if1 .left)) (c .before .before .before .if2 .left) (sym (c .before .before .nothing-asked .ensures _) ∙ c .before .if3 .taken))
+    let k = call (args .s) (args .store .now) (args .clauses .now) (args .work .now) (args .lo) (args .end) in
+    unasked k (sym (c .before .before .before .before .before .well-formed .ensures) ∙ not-false _ (c .before .before .before .before .if1 .left)) (c .before .before .before .if2 .left) _ (c .encoded3 .ensures) (sym (c .before .before .nothing-asked .ensures _) ∙ c .before .if3 .taken)
 
-divisor-above-requires : tie.Need-divisor-above-requires
-divisor-above-requires c κs = search needs
+which-case-requires : tie.Need-which-case-requires
+which-case-requires c κs = search needs
 
 encoded-requires-4 : tie.Need-encoded-requires-4
 encoded-requires-4 c κs = search needs
@@ -76,17 +76,21 @@ same-length-8 : tie.Need-same-length-8
 same-length-8 c = search needs
 
 returns-4 : tie.Need-returns-4
-unfolding encoded answer-of
+unfolding answer-of
 returns-4 c =
-    let if1 = c .before .before .before .before .before .before .before .if1 in
-    let well-formed = c .before .before .before .before .before .before .before .before .well-formed in
+    let which-case = c .before .before .which-case in
     let args = c .before .before .before .before .before .before .before .before .before .before .before .before .before .args in
-    plain-end (args .s) (args .store .now) (args .clauses .now) (args .work .now) 10 _ _ (c .encoded4 .ensures) (refused-10 (args .s) (args .store .now) (args .clauses .now) (args .work .now) _ _ (sym (well-formed .ensures) ∙ not-false _ (if1 .left)) (c .before .before .before .before .before .before .if2 .left) (sym (c .before .before .before .before .before .nothing-asked .ensures _) ∙ c .before .before .before .before .if3 .left) (sym (c .before .before .divisor-above .ensures _ (well-formed-facts (args .s) (args .store .now) (args .clauses .now) (sym (well-formed .ensures) ∙ not-false _ (if1 .left)))) ∙ c .before .if4 .taken))
+    let k = call (args .s) (args .store .now) (args .clauses .now) (args .work .now) (args .lo) (args .end) in
+    let p = asks k (which-case .result) (sym (c .before .before .before .before .before .before .before .before .well-formed .ensures) ∙ not-false _ (c .before .before .before .before .before .before .before .if1 .left)) (c .before .before .before .before .before .before .if2 .left) (sym (c .before .before .before .before .before .nothing-asked .ensures _) ∙ c .before .before .before .before .if3 .left) (which-case .ensures _) in
+    ends-10 k _ p _ (c .encoded4 .ensures) (c .before .if4 .taken)
 
-idle-requires : tie.Need-idle-requires
-idle-requires c κs =
+nothing-to-do-requires : tie.Need-nothing-to-do-requires
+nothing-to-do-requires c κs =
+    let which-case = c .before .before .which-case in
     let args = c .before .before .before .before .before .before .before .before .before .before .before .before .before .args in
-    ((well-formed-facts (args .s) (args .store .now) (args .clauses .now) (sym (c .before .before .before .before .before .before .before .before .well-formed .ensures) ∙ not-false _ (c .before .before .before .before .before .before .before .if1 .left))) .laid .tares-few, asked-range (buildOf (args .s) (args .store .now)) _ _ (sym (c .before .before .before .before .before .nothing-asked .ensures _) ∙ c .before .before .before .before .if3 .left))
+    let k = call (args .s) (args .store .now) (args .clauses .now) (args .work .now) (args .lo) (args .end) in
+    let p = asks k (which-case .result) (sym (c .before .before .before .before .before .before .before .before .well-formed .ensures) ∙ not-false _ (c .before .before .before .before .before .before .before .if1 .left)) (c .before .before .before .before .before .before .if2 .left) (sym (c .before .before .before .before .before .nothing-asked .ensures _) ∙ c .before .before .before .before .if3 .left) (which-case .ensures _) in
+    (begins k _ p (c .before .if4 .left) .well .laid .tares-few, asked-range (buildOf (args .s) (args .store .now)) _ _ (p .asked))
 
 encoded-requires-5 : tie.Need-encoded-requires-5
 encoded-requires-5 c κs = search needs
@@ -98,29 +102,23 @@ same-length-10 : tie.Need-same-length-10
 same-length-10 c = search needs
 
 returns-5 : tie.Need-returns-5
-unfolding encoded answer-of
+unfolding answer-of
 returns-5 c =
-    let if5 = c .before .if5 in
-    let idle = c .before .before .idle in
     let if4 = c .before .before .before .before .if4 in
-    let divisor-above = c .before .before .before .before .before .divisor-above in
-    let if3 = c .before .before .before .before .before .before .before .if3 in
-    let nothing-asked = c .before .before .before .before .before .before .before .before .nothing-asked in
-    let if1 = c .before .before .before .before .before .before .before .before .before .before .if1 in
-    let well-formed = c .before .before .before .before .before .before .before .before .before .before .before .well-formed in
+    let which-case = c .before .before .before .before .before .which-case in
     let args = c .before .before .before .before .before .before .before .before .before .before .before .before .before .before .before .before .args in
-    plain-end (args .s) (args .store .now) (args .clauses .now) (args .work .now) 0 _ _ (c .encoded5 .ensures) (idled (args .s) (args .store .now) (args .clauses .now) (args .work .now) _ _ (sym (well-formed .ensures) ∙ not-false _ (if1 .left)) (c .before .before .before .before .before .before .before .before .before .if2 .left) (sym (nothing-asked .ensures _) ∙ if3 .left) (sym (divisor-above .ensures _ (well-formed-facts (args .s) (args .store .now) (args .clauses .now) (sym (well-formed .ensures) ∙ not-false _ (if1 .left)))) ∙ if4 .left) (sym (idle .ensures _ (well-formed-facts (args .s) (args .store .now) (args .clauses .now) (sym (well-formed .ensures) ∙ not-false _ (if1 .left))) (sym (nothing-asked .ensures _) ∙ if3 .left) (sym (divisor-above .ensures _ (well-formed-facts (args .s) (args .store .now) (args .clauses .now) (sym (well-formed .ensures) ∙ not-false _ (if1 .left)))) ∙ if4 .left)) ∙ if5 .taken) (idle-fits (args .s) (args .store .now) (args .clauses .now) (well-formed-facts (args .s) (args .store .now) (args .clauses .now) (sym (well-formed .ensures) ∙ not-false _ (if1 .left))) (sym (divisor-above .ensures _ (well-formed-facts (args .s) (args .store .now) (args .clauses .now) (sym (well-formed .ensures) ∙ not-false _ (if1 .left)))) ∙ if4 .left) _ _ (sym (nothing-asked .ensures _) ∙ if3 .left) (sym (idle .ensures _ (well-formed-facts (args .s) (args .store .now) (args .clauses .now) (sym (well-formed .ensures) ∙ not-false _ (if1 .left))) (sym (nothing-asked .ensures _) ∙ if3 .left) (sym (divisor-above .ensures _ (well-formed-facts (args .s) (args .store .now) (args .clauses .now) (sym (well-formed .ensures) ∙ not-false _ (if1 .left)))) ∙ if4 .left)) ∙ if5 .taken)))
+    let k = call (args .s) (args .store .now) (args .clauses .now) (args .work .now) (args .lo) (args .end) in
+    let p = asks k (which-case .result) (sym (c .before .before .before .before .before .before .before .before .before .before .before .well-formed .ensures) ∙ not-false _ (c .before .before .before .before .before .before .before .before .before .before .if1 .left)) (c .before .before .before .before .before .before .before .before .before .if2 .left) (sym (c .before .before .before .before .before .before .before .before .nothing-asked .ensures _) ∙ c .before .before .before .before .before .before .before .if3 .left) (which-case .ensures _) in
+    idled k _ p (if4 .left) _ (c .encoded5 .ensures) (sym (c .before .before .nothing-to-do .ensures _ (begins k _ p (if4 .left)) (due-is k _ p)) ∙ c .before .if5 .taken)
 
 carried-out-requires : tie.Need-carried-out-requires
 carried-out-requires c κs =
     let if4 = c .before .before .before .before .before .before .if4 in
-    let divisor-above = c .before .before .before .before .before .before .before .divisor-above in
-    let if3 = c .before .before .before .before .before .before .before .before .before .if3 in
-    let nothing-asked = c .before .before .before .before .before .before .before .before .before .before .nothing-asked in
-    let if1 = c .before .before .before .before .before .before .before .before .before .before .before .before .if1 in
-    let well-formed = c .before .before .before .before .before .before .before .before .before .before .before .before .before .well-formed in
+    let which-case = c .before .before .before .before .before .before .before .which-case in
     let args = c .before .before .before .before .before .before .before .before .before .before .before .before .before .before .before .before .before .before .args in
-    record { formed = (sym (well-formed .ensures) ∙ not-false _ (if1 .left)); long = c .before .before .before .before .before .before .before .before .before .before .before .if2 .left; asked = sym (nothing-asked .ensures _) ∙ if3 .left; reached = sym (divisor-above .ensures _ (well-formed-facts (args .s) (args .store .now) (args .clauses .now) (sym (well-formed .ensures) ∙ not-false _ (if1 .left)))) ∙ if4 .left; busy = sym (c .before .before .before .before .idle .ensures _ (well-formed-facts (args .s) (args .store .now) (args .clauses .now) (sym (well-formed .ensures) ∙ not-false _ (if1 .left))) (sym (nothing-asked .ensures _) ∙ if3 .left) (sym (divisor-above .ensures _ (well-formed-facts (args .s) (args .store .now) (args .clauses .now) (sym (well-formed .ensures) ∙ not-false _ (if1 .left)))) ∙ if4 .left)) ∙ c .before .before .before .if5 .left }
+    let k = call (args .s) (args .store .now) (args .clauses .now) (args .work .now) (args .lo) (args .end) in
+    let p = asks k (which-case .result) (sym (c .before .before .before .before .before .before .before .before .before .before .before .before .before .well-formed .ensures) ∙ not-false _ (c .before .before .before .before .before .before .before .before .before .before .before .before .if1 .left)) (c .before .before .before .before .before .before .before .before .before .before .before .if2 .left) (sym (c .before .before .before .before .before .before .before .before .before .before .nothing-asked .ensures _) ∙ c .before .before .before .before .before .before .before .before .before .if3 .left) (which-case .ensures _) in
+    (works k _ p (if4 .left) (sym (c .before .before .before .before .nothing-to-do .ensures _ (begins k _ p (if4 .left)) (due-is k _ p)) ∙ c .before .before .before .if5 .left), p .case-is)
 
 same-length-11 : tie.Need-same-length-11
 same-length-11 c = search needs
@@ -152,12 +150,12 @@ encode-ub-change-spec =
     same-length-5
     same-length-6
     returns-3
-    divisor-above-requires
+    which-case-requires
     encoded-requires-4
     same-length-7
     same-length-8
     returns-4
-    idle-requires
+    nothing-to-do-requires
     encoded-requires-5
     same-length-9
     same-length-10

@@ -5,7 +5,7 @@ use borrow.Author.Tests.{not-true, not-false}
 use Rattle.laws.specs.WellFormed.Whole.{well-formed-facts}
 use Rattle.enforce_answer.specs.declared.Answered.{Answered}
 use Rattle.enforce_answer.specs.Ends.{answered}
-use Rattle.precision_steps.proofs.Whole.{readable}
+use Rattle.records_waiting.proofs.Whole.{readable}
 use Rattle.watchdog_enforce.proofs.Ends.{refused, given}
 use Rattle.watchdog_enforce.proofs.enforce_count.Statement.{statement}
 use Rattle.watchdog_enforce.proofs.enforce_count.Tie as tie

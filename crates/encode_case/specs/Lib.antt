@@ -1,0 +1,3 @@
+-- Which case an encode is, and what it is called with.
+pub mod Case
+pub mod Call

@@ -1,0 +1,2 @@
+-- How an encode ends.
+pub mod Settled

@@ -1,2 +1,0 @@
--- What copying words, setting buckets aside and putting them back promise.
-pub mod Copies
