@@ -28,8 +28,8 @@ fn clear_counts(work: &mut [u32])
     ensures { λ _. ⌜ ((k : ℕ) → k < 20 → count-at (now (work .exit)) k ≡ 0) × (length (now (work .exit)) ≡ length (now (work .entry))) ⌝ }
 {
     let mut k: usize = 0;
-    while k < 20 {
-        records::put(work, 2048 + k, 0);
+    while k < rules::MOST_BUCKETS {
+        records::put(work, build_line::COUNTS + k, 0);
         k += 1;
     }
 }
@@ -51,7 +51,7 @@ pub fn tower(
     m: Marks,
     h: usize,
     d: u64,
-    tares: [u32; 19],
+    tares: [u32; rules::MOST_TARES],
     many: usize,
     p: usize,
     n: usize,
@@ -69,7 +69,7 @@ pub fn tower(
         };
     }
     let g = build_queue::gather(s, work, a, h, d);
-    let wait = g.head < 512;
+    let wait = g.head < build_line::PLACES;
     let b = build_buckets::buckets_over(s, work, g.marks, wait, tares, many, p, n);
     let marks = b.marks;
     Segment {

@@ -9,6 +9,9 @@ ghost use Rattle.rules.specs.WellFormed.{is-dummy, halved-to, ends-in, linked};
 ghost use Rattle.records.specs.Carries.{Stores};
 ghost use Rattle.check_buckets.specs.Links.{link-right, left-low};
 
+// The largest left maximum: every input, and the tare.
+const MOST_LEFT: u32 = (rules::MOST_INPUTS as u32) + 1;
+
 // Whether node n is a dummy. Constant time.
 fn is_dummy(s: &[u32], records: usize, n: u32) -> bool
     ensures { λ r. ⌜ ((rs : List Record) → Stores (now (s .entry)) records rs → r ≡ is-dummy (nodeAt rs n .kind)) ⌝ }
@@ -76,7 +79,7 @@ pub fn linked(s: &[u32], records: usize, wait: bool, buckets: &[u32]) -> bool
 fn left_low(s: &[u32], records: usize, b: u32) -> bool
     ensures { λ r. ⌜ ((rs : List Record) → Stores (now (s .entry)) records rs → r ≡ left-low rs b) ⌝ }
 {
-    records::maximum(s, records, records::left(s, records, b)) <= 257
+    records::maximum(s, records, records::left(s, records, b)) <= MOST_LEFT
 }
 
 // Whether every bucket's left maximum is at most 257. Linear in the buckets.

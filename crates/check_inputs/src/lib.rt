@@ -30,7 +30,7 @@ fn variable(s: &[u32], records: usize, n: u32) -> u32
     ensures { λ r. ⌜ ((rs : List Record) → Stores (now (s .entry)) records rs → r ≡ variable-of (nodeAt rs n .kind)) ⌝ }
 {
     let f = check_records::read(s, records, n as usize);
-    if f.kind != 1 {
+    if f.kind != records::LEAF {
         return 0;
     }
     numbers::variable(f.a)
@@ -63,7 +63,7 @@ pub fn lowest(s: &[u32], records: usize, inputs: u32) -> u64
 fn is_entry(f: records::Fields, n: u32) -> bool
     ensures { λ x. ⌜ ((r : Record) → fields f ≡ record-image r → x ≡ is-entry n r) ⌝ }
 {
-    if f.kind != 5 {
+    if f.kind != records::WAITING {
         return false;
     }
     f.a == n

@@ -23,22 +23,22 @@ fn zeros(a: u32, b: u32, c: u32) -> bool
 fn kind_known(f: records::Fields) -> bool
     ensures { λ r. ⌜ r ≡ kind-known (f .kind) (f .a) (f .b) (f .c) (f .maximum) (f .height) ⌝ }
 {
-    if f.kind == 1 {
+    if f.kind == records::LEAF {
         if f.a == 1 {
             return false;
         }
         return zeros(f.b, f.c, 0);
     }
-    if f.kind == 2 {
+    if f.kind == records::JOIN {
         return f.c <= 1;
     }
-    if f.kind == 3 {
+    if f.kind == records::DUMMY {
         return zeros(f.a, f.b, f.c);
     }
-    if f.kind == 4 {
+    if f.kind == records::OUTPUT {
         return zeros(f.c % 2, f.maximum, f.height);
     }
-    if f.kind == 5 {
+    if f.kind == records::WAITING {
         return zeros(f.c, f.maximum, f.height);
     }
     false
@@ -48,19 +48,19 @@ fn kind_known(f: records::Fields) -> bool
 fn known_at(s: &[u32], records: usize, i: usize) -> bool
     ensures { λ r. ⌜ r ≡ known-at (now (s .entry)) records i ⌝ }
 {
-    if records::field(s, records, i, 6) != 0 {
+    if records::field(s, records, i, records::ROLE) != 0 {
         return false;
     }
-    if records::field(s, records, i, 7) != 0 {
+    if records::field(s, records, i, records::INDEX) != 0 {
         return false;
     }
     let f = records::Fields {
-        kind: records::field(s, records, i, 0),
-        a: records::field(s, records, i, 1),
-        b: records::field(s, records, i, 2),
-        c: records::field(s, records, i, 3),
-        maximum: records::field(s, records, i, 4),
-        height: records::field(s, records, i, 5),
+        kind: records::field(s, records, i, records::KIND),
+        a: records::field(s, records, i, records::A),
+        b: records::field(s, records, i, records::B),
+        c: records::field(s, records, i, records::C),
+        maximum: records::field(s, records, i, records::MAXIMUM),
+        height: records::field(s, records, i, records::HEIGHT),
     };
     kind_known(f)
 }

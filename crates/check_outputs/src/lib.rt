@@ -19,7 +19,7 @@ pub struct Budget {
 fn rises(f: records::Fields, low: u64) -> bool
     ensures { λ x. ⌜ ((r : Record) → fields f ≡ record-image r → x ≡ rises low r) ⌝ }
 {
-    if f.kind != 4 {
+    if f.kind != records::OUTPUT {
         return true;
     }
     low <= ((f.c / 2) as u64)
@@ -29,7 +29,7 @@ fn rises(f: records::Fields, low: u64) -> bool
 fn next_low(f: records::Fields, low: u64) -> u64
     ensures { λ x. ⌜ ((r : Record) → fields f ≡ record-image r → x ≡ next-low low r) ⌝ }
 {
-    if f.kind != 4 {
+    if f.kind != records::OUTPUT {
         return low;
     }
     ((f.c / 2) as u64) + 1
@@ -56,7 +56,7 @@ pub fn outputs_rise(s: &[u32], records: usize) -> bool
 fn is_output(f: records::Fields, n: u32, v: u32) -> bool
     ensures { λ x. ⌜ ((r : Record) → fields f ≡ record-image r → x ≡ is-output r n v) ⌝ }
 {
-    if f.kind != 4 {
+    if f.kind != records::OUTPUT {
         return false;
     }
     if f.a != n {
@@ -85,7 +85,7 @@ fn again(s: &[u32], records: usize, i: usize) -> bool
     ensures { λ x. ⌜ ((rs : List Record) → Stores (now (s .entry)) records rs → x ≡ again-in (getD rs i unknown) (drop (i + 1) rs)) ⌝ }
 {
     let f = check_records::read(s, records, i);
-    if f.kind != 4 {
+    if f.kind != records::OUTPUT {
         return false;
     }
     defined_from(s, records, i + 1, f.a, f.b)
@@ -110,7 +110,7 @@ fn record_cost(s: &[u32], records: usize, what: u32, i: usize) -> u64
     ensures { λ x. ⌜ ((rs : List Record) → Stores (now (s .entry)) records rs → x ≡ record-cost rs what (getD rs i unknown)) ⌝ }
 {
     let f = check_records::read(s, records, i);
-    if f.kind != 5 {
+    if f.kind != records::WAITING {
         return 0;
     }
     if what == 0 {

@@ -13,6 +13,12 @@ ghost use Rattle.records.specs.Words.{fields};
 ghost use Rattle.records.specs.Carries.{Stores};
 ghost use Rattle.check_records.specs.Tests.{kind-right, output-right, entry-right, record-right, order-at, place-right, records-right};
 
+// The largest maximum of a node: a bucket's members, its tare, and the half of what stands below.
+const MOST_MAXIMUM: u32 = 2 * (rules::MOST_INPUTS as u32) + 1;
+
+// The largest weight, as a record holds it.
+const MOST_WEIGHT: u32 = rules::MOST_WEIGHT as u32;
+
 // What numbers and weights are compared with: output numbers are at least `low` and below `fresh`, waiting weights below
 // `top`.
 pub struct Limits {
@@ -26,12 +32,12 @@ pub fn read(s: &[u32], records: usize, i: usize) -> records::Fields
     ensures { λ f. ⌜ ((rs : List Record) → Stores (now (s .entry)) records rs → fields f ≡ record-image (getD rs i unknown)) ⌝ }
 {
     records::Fields {
-        kind: records::field(s, records, i, 0),
-        a: records::field(s, records, i, 1),
-        b: records::field(s, records, i, 2),
-        c: records::field(s, records, i, 3),
-        maximum: records::field(s, records, i, 4),
-        height: records::field(s, records, i, 5),
+        kind: records::field(s, records, i, records::KIND),
+        a: records::field(s, records, i, records::A),
+        b: records::field(s, records, i, records::B),
+        c: records::field(s, records, i, records::C),
+        maximum: records::field(s, records, i, records::MAXIMUM),
+        height: records::field(s, records, i, records::HEIGHT),
     }
 }
 
@@ -39,18 +45,18 @@ pub fn read(s: &[u32], records: usize, i: usize) -> records::Fields
 pub fn is_node(s: &[u32], records: usize, n: u32) -> bool
     ensures { λ r. ⌜ ((rs : List Record) → Stores (now (s .entry)) records rs → r ≡ place rs n) ⌝ }
 {
-    let kind = records::field(s, records, n as usize, 0);
+    let kind = records::field(s, records, n as usize, records::KIND);
     if kind == 0 {
         return false;
     }
-    kind < 4
+    kind < records::OUTPUT
 }
 
 // Whether node n is a leaf. Constant time.
 pub fn is_leaf(s: &[u32], records: usize, n: u32) -> bool
     ensures { λ r. ⌜ ((rs : List Record) → Stores (now (s .entry)) records rs → r ≡ is-leaf (nodeAt rs n .kind)) ⌝ }
 {
-    records::field(s, records, n as usize, 0) == 1
+    records::field(s, records, n as usize, records::KIND) == records::LEAF
 }
 
 // Whether both are 0. Constant time.
@@ -97,7 +103,7 @@ fn leaf_right(a: u32, m: u32, h: u32) -> bool
     if x < 1 {
         return false;
     }
-    x <= 1000000000
+    x <= rules::MOST_VARIABLE
 }
 
 // Whether a join is right. Constant time.
@@ -110,7 +116,7 @@ fn join_right(s: &[u32], records: usize, f: records::Fields) -> bool
     if !is_node(s, records, f.b) {
         return false;
     }
-    if 513 < f.maximum {
+    if MOST_MAXIMUM < f.maximum {
         return false;
     }
     let x = records::maximum(s, records, f.a) as u64;
@@ -161,7 +167,7 @@ fn entry_right(s: &[u32], records: usize, buckets: &[u32], lim: Limits, f: recor
     if f.b < 1 {
         return false;
     }
-    if 1048575 < f.b {
+    if MOST_WEIGHT < f.b {
         return false;
     }
     if lim.top <= (f.b as u64) {
@@ -181,16 +187,16 @@ fn record_right(
 ) -> bool
     ensures { λ x. ⌜ ((rs : List Record) (r : Record) → Stores (now (s .entry)) records rs → fields f ≡ record-image r → x ≡ record-right rs (now (tares .entry)) (now (buckets .entry)) lim r) ⌝ }
 {
-    if f.kind == 1 {
+    if f.kind == records::LEAF {
         return leaf_right(f.a, f.maximum, f.height);
     }
-    if f.kind == 2 {
+    if f.kind == records::JOIN {
         return join_right(s, records, f);
     }
-    if f.kind == 4 {
+    if f.kind == records::OUTPUT {
         return output_right(s, records, tares, lim, f);
     }
-    if f.kind == 5 {
+    if f.kind == records::WAITING {
         return entry_right(s, records, buckets, lim, f);
     }
     blank(f.maximum, f.height)
@@ -201,20 +207,20 @@ fn order_at(s: &[u32], records: usize, i: usize, f: records::Fields) -> bool
     requires { ⌜ i < records ⌝ }
     ensures { λ x. ⌜ ((rs : List Record) → Stores (now (s .entry)) records rs → fields f ≡ record-image (getD rs i unknown) → x ≡ order-at rs i) ⌝ }
 {
-    if f.kind != 5 {
+    if f.kind != records::WAITING {
         return true;
     }
     if records - i < 2 {
         return true;
     }
-    records::field(s, records, i + 1, 0) == 5
+    records::field(s, records, i + 1, records::KIND) == records::WAITING
 }
 
 // Whether record i names no bucket but the one below. Linear in the buckets.
 fn spare_at(buckets: &[u32], i: usize, f: records::Fields) -> bool
     ensures { λ x. ⌜ ((r : Record) → fields f ≡ record-image r → x ≡ spares-buckets (now (buckets .entry)) i (node-of r .kind)) ⌝ }
 {
-    if f.kind != 2 {
+    if f.kind != records::JOIN {
         return true;
     }
     if check_arrays::among(buckets, f.a) {

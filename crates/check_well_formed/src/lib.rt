@@ -13,14 +13,32 @@ ghost use Rattle.records.specs.Carries.{Stores};
 ghost use Rattle.check_outputs.specs.Steps.{total-cost};
 ghost use Rattle.check_well_formed.specs.Groups.{state-right, numbered, waiting-few, built-numbers, built-right, unbuilt-right, records-hold, Limited};
 
+// As many records as words can name.
+const MOST_RECORDS: usize = records::MOST_PLACE + 1;
+
+// The most inputs, as the state counts them.
+const MOST_INPUTS: u32 = rules::MOST_INPUTS as u32;
+
+// The most that waiting entries and their maxima come to.
+const MOST_WAITING: u64 = rules::MOST_INPUTS as u64;
+
+// The least number above every weight.
+const WEIGHTS_END: u64 = rules::MOST_WEIGHT + 1;
+
+// The most tares, as the state counts them.
+const MOST_TARES: u32 = rules::MOST_TARES as u32;
+
+// The largest power of two within a weight.
+const TOP_POWER: u64 = 1 << MOST_TARES;
+
 // Whether the marks lie within the slices. Constant time.
 fn marks_within(s: rules::State, store: &[u32], clauses: &[i32]) -> bool
     ensures { λ r. ⌜ r ≡ marks-within s (now (store .entry)) (now (clauses .entry)) ⌝ }
 {
-    if 4294967296 < s.records {
+    if MOST_RECORDS < s.records {
         return false;
     }
-    if store.len() / 8 < s.records {
+    if store.len() / records::WORDS < s.records {
         return false;
     }
     s.words <= clauses.len()
@@ -51,13 +69,13 @@ fn state_right(s: rules::State) -> bool
     if s.fresh <= s.variables {
         return false;
     }
-    if 1000000001 < s.fresh {
+    if rules::MOST_FRESH < s.fresh {
         return false;
     }
     if !numbers::power_of_two(s.set) {
         return false;
     }
-    s.inputs <= 256
+    s.inputs <= MOST_INPUTS
 }
 
 // What waiting weights are below: the built divisor, or any lawful weight's bound. Constant time.
@@ -65,7 +83,7 @@ fn top(built: u64) -> u64
     ensures { λ r. ⌜ ((w : ℕ) → leb w 1048575 ≡ true → ltb w r ≡ cond (eqb built 0) true (ltb w built)) ⌝ }
 {
     if built == 0 {
-        return 1048576;
+        return WEIGHTS_END;
     }
     built
 }
@@ -124,10 +142,10 @@ fn costs(store: &[u32], records: usize, what: u32, n: u64) -> bool
 fn waiting_few(store: &[u32], records: usize) -> bool
     ensures { λ r. ⌜ ((rs : List Record) → Stores (now (store .entry)) records rs → r ≡ waiting-few rs) ⌝ }
 {
-    if !costs_few(store, records, 0, 256) {
+    if !costs_few(store, records, 0, MOST_WAITING) {
         return false;
     }
-    costs_few(store, records, 1, 256)
+    costs_few(store, records, 1, MOST_WAITING)
 }
 
 // Whether as many entries wait as there are inputs, and each input does. Linear in the records, and quadratic in the inputs.
@@ -164,10 +182,10 @@ fn times_weight(built: u64, tares: u32) -> bool
     requires { ⌜ 1 ≤ built ⌝ }
     ensures { λ r. ⌜ r ≡ leb (built * 2 ^ tares) (2 ^ 19) ⌝ }
 {
-    if 19 < tares {
+    if MOST_TARES < tares {
         return false;
     }
-    built <= 524288 / numbers::power(tares)
+    built <= TOP_POWER / numbers::power(tares)
 }
 
 // What built means of the state alone. At most 63 turns.

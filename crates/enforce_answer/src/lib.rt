@@ -16,6 +16,7 @@ ghost use Rattle.records_waiting.specs.Read.{Readable};
 ghost use Rattle.enforce_answer.specs.Tares.{tare-step};
 ghost use Rattle.enforce_answer.specs.Ends.{Ended};
 ghost use Rattle.enforce_answer.specs.Has.{Has};
+use rules::MOST_TARES;
 
 // The words of an answer, which are the first of the scratch, and the refusal, 0 where there is none.
 pub struct Answered {
@@ -55,7 +56,7 @@ fn put_tare(c: &mut [i32], at: usize, t: u32, x: u64) -> usize
 }
 
 // The tare of power i. Constant time.
-fn tare(tares: [u32; 19], used: usize, i: usize) -> u32
+fn tare(tares: [u32; MOST_TARES], used: usize, i: usize) -> u32
     requires { ⌜ (i < used) × (used ≤ 19) ⌝ }
     ensures { λ r. ⌜ r ≡ getD (take used tares) i 0 ⌝ }
 {
@@ -63,7 +64,7 @@ fn tare(tares: [u32; 19], used: usize, i: usize) -> u32
 }
 
 // The tares of the set bits of x, highest power first, in the words before `end`. Linear in the tares.
-fn put_tares(c: &mut [i32], tares: [u32; 19], used: usize, x: u64, end: usize)
+fn put_tares(c: &mut [i32], tares: [u32; MOST_TARES], used: usize, x: u64, end: usize)
     requires { ⌜ (used ≤ 19) × All (λ t. t < 2147483648) (take used tares) ⌝ }
     ensures { λ _. ⌜ ((from : ℕ) → end ≡ from + length (set-tares (take used tares) x) → end ≤ length (now (c .entry)) →
         now (c .exit) ≡ take from (now (c .entry)) ++ (set-tares (take used tares) x ++ drop end (now (c .entry)))) ⌝ }
@@ -79,7 +80,7 @@ fn put_tares(c: &mut [i32], tares: [u32; 19], used: usize, x: u64, end: usize)
 }
 
 // A literal and the tares of the set bits of x as the answer, or refusal 7. Linear in the tares.
-fn put_answer(c: &mut [i32], w: u32, tares: [u32; 19], used: usize, x: u64) -> Answered
+fn put_answer(c: &mut [i32], w: u32, tares: [u32; MOST_TARES], used: usize, x: u64) -> Answered
     requires { ⌜ (used ≤ 19) × All (λ t. t < 2147483648) (take used tares) ⌝ }
     ensures { λ r. ⌜ Ended (some (word-literal w ∷ set-tares (take used tares) x)) (now (c .entry)) (now (c .exit)) r ⌝ }
 {
@@ -99,7 +100,7 @@ fn put_answer(c: &mut [i32], w: u32, tares: [u32; 19], used: usize, x: u64) -> A
 }
 
 // The root: the first bucket, 0 where there is none. Constant time.
-fn root(buckets: [u32; 20], used: u32) -> u32
+fn root(buckets: [u32; rules::MOST_BUCKETS], used: u32) -> u32
     ensures { λ r. ⌜ r ≡ getD (take used buckets) 0 0 ⌝ }
 {
     if used == 0 {
@@ -120,7 +121,7 @@ fn one_answer(store: &[u32], records: usize, c: &mut [i32], u: u64) -> Answered
         };
     }
     let w = numbers::negated(totalizer_find::literal(store, records, 0, 1));
-    let none: [u32; 19] = [0; 19];
+    let none: [u32; MOST_TARES] = [0; MOST_TARES];
     put_answer(c, w, none, 0, 0)
 }
 
@@ -130,7 +131,7 @@ fn root_answer(
     records: usize,
     top: u32,
     c: &mut [i32],
-    tares: [u32; 19],
+    tares: [u32; MOST_TARES],
     used: u32,
     u: u64,
 ) -> Answered

@@ -253,7 +253,7 @@ fn role(letter: &[u8], n: u64) {
 }
 
 // A literal that is not negated: t and a tare's power, else i and the input's variable. Linear in the tares.
-fn positive_role(tares: &[u32; 19], used: usize, variable: u32) {
+fn positive_role(tares: &[u32; rules::MOST_TARES], used: usize, variable: u32) {
     let power = place(tares, used, variable);
     if power < used {
         role(b" t", power as u64);

@@ -411,9 +411,9 @@ fn fresh() -> World {
         clauses: 0,
         variables: 0,
         fresh: 0,
-        tares: [0; 19],
+        tares: [0; rules::MOST_TARES],
         tares_used: 0,
-        buckets: [0; 20],
+        buckets: [0; rules::MOST_BUCKETS],
         buckets_used: 0,
     };
     World {
@@ -509,11 +509,11 @@ pub fn play(
 // Every line of the text over these buffers. Grows as the calls do.
 fn play_over(
     text: &[u8],
-    lits: &mut [i32; 257],
-    weights: &mut [u64; 257],
+    lits: &mut [i32; rules::MOST_INPUTS + 1],
+    weights: &mut [u64; rules::MOST_INPUTS + 1],
     store: &mut [u32; 24000],
     clauses: &mut [i32; 50000],
-    work: &mut [u32; 16384],
+    work: &mut [u32; rules::WORK_WORDS],
 ) {
     play(text, lits, weights, store, clauses, work);
 }
@@ -528,9 +528,9 @@ fn blank_text() -> [u8; 131072]
 // calls do.
 pub fn play_input() {
     let mut text = blank_text();
-    let mut lits = [0i32; 257];
-    let mut weights = [0u64; 257];
-    let mut work = [0u32; 16384];
+    let mut lits = [0i32; rules::MOST_INPUTS + 1];
+    let mut weights = [0u64; rules::MOST_INPUTS + 1];
+    let mut work = [0u32; rules::WORK_WORDS];
     let mut store = [0u32; 24000];
     let mut clauses = [0i32; 50000];
     let n = io::read_full(STDIN_FILENO, &mut text);

@@ -81,10 +81,10 @@ fn less(x: usize, y: usize) -> usize {
 
 // How many words the used records take, all of the store where there are fewer. Constant time.
 pub fn used_words(s: &[u32], records: usize) -> usize {
-    if s.len() / 8 < records {
+    if s.len() / records::WORDS < records {
         return s.len();
     }
-    8 * records
+    records::WORDS * records
 }
 
 // How many of the clause words are used, all where the mark lies past them. Constant time.
@@ -134,11 +134,11 @@ fn slots(slots: &[u32], used: u32) {
     digest_words(slots, used as usize, slots.len());
 }
 
-fn tare_slots(tares: &[u32; 19], used: u32) {
+fn tare_slots(tares: &[u32; rules::MOST_TARES], used: u32) {
     slots(tares, used);
 }
 
-fn bucket_slots(buckets: &[u32; 20], used: u32) {
+fn bucket_slots(buckets: &[u32; rules::MOST_BUCKETS], used: u32) {
     slots(buckets, used);
 }
 

@@ -23,19 +23,19 @@ fn lesser(x: usize, y: usize) -> usize
 fn fitting(places: usize, words: usize, records: usize) -> usize
     ensures { λ r. ⌜ r ≡ min places (min records (words / 8)) ⌝ }
 {
-    lesser(places, lesser(records, words / 8))
+    lesser(places, lesser(records, words / records::WORDS))
 }
 
 // Link and maximum of record n of the first `records`. Constant time.
 fn stored(s: &[u32], records: usize, n: usize) -> Node
     ensures { λ r. ⌜ r ≡ read-node (now (s .entry)) records n ⌝ }
 {
-    let maximum = records::field(s, records, n, 4);
-    if records::field(s, records, n, 0) != 2 {
+    let maximum = records::field(s, records, n, records::MAXIMUM);
+    if records::field(s, records, n, records::KIND) != records::JOIN {
         return Node { link: 0, maximum };
     }
     Node {
-        link: records::field(s, records, n, 2),
+        link: records::field(s, records, n, records::RIGHT),
         maximum,
     }
 }

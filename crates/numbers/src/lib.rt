@@ -9,6 +9,12 @@ ghost use Rattle.rules.specs.Digits.{digits, top-bit, power-of-two};
 ghost use Rattle.rules.specs.Records.{literal-word, word-literal};
 ghost use Rattle.numbers.specs.Signed.{signed-at, put-signed, word-or-none};
 
+// The largest literal.
+const MOST: i32 = rules::MOST_VARIABLE as i32;
+
+// The least literal.
+const LEAST: i32 = -MOST;
+
 // The bit length of x, 1 for 0. At most 63 turns.
 pub fn digits(x: u64) -> u32
     ensures { λ r. ⌜ r ≡ digits x ⌝ }
@@ -57,10 +63,10 @@ pub fn power_of_two(x: u64) -> bool
 pub fn lawful(x: i32) -> bool
     ensures { λ r. ⌜ r ≡ lawful x ⌝ }
 {
-    if x < -1000000000 {
+    if x < LEAST {
         return false;
     }
-    if 1000000000 < x {
+    if MOST < x {
         return false;
     }
     if x == 0 {
@@ -73,10 +79,10 @@ pub fn lawful(x: i32) -> bool
 pub fn literal_word(x: i32) -> u32
     ensures { λ r. ⌜ r ≡ word-or-none x ⌝ }
 {
-    if x < -1000000000 {
+    if x < LEAST {
         return 0;
     }
-    if 1000000000 < x {
+    if MOST < x {
         return 0;
     }
     if x < 0 {

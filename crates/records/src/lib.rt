@@ -10,6 +10,78 @@ ghost use Rattle.rules.specs.Records.{Record, nodeAt, left-link, right-link};
 ghost use Rattle.records.specs.Words.{word-at, put-word, field-at, fields, put-record, side-of, buf, push, push-side, push-clause, more-of, full-of};
 ghost use Rattle.records.specs.Carries.{st, Steps, Stores, with-clause, clause-of, is-join, is-halved};
 
+// The words of a record.
+pub const WORDS: usize = 8;
+
+// The kind of a leaf. A holds its literal.
+pub const LEAF: u32 = 1;
+
+// The kind of a join. A and B hold its sides, C is 1 where the right one is halved.
+pub const JOIN: u32 = 2;
+
+// The kind of a dummy.
+pub const DUMMY: u32 = 3;
+
+// The kind of an output. A holds its node, B its value, C its number as a literal.
+pub const OUTPUT: u32 = 4;
+
+// The kind of a waiting entry. A holds its node, B its weight.
+pub const WAITING: u32 = 5;
+
+// The place of the kind among the words of a record.
+pub const KIND: usize = 0;
+
+// The place of A.
+pub const A: usize = 1;
+
+// The place of B.
+pub const B: usize = 2;
+
+// The place of C.
+pub const C: usize = 3;
+
+// The place of a leaf's literal.
+pub const LITERAL: usize = A;
+
+// The place of a join's left side.
+pub const LEFT: usize = A;
+
+// The place of a join's right side.
+pub const RIGHT: usize = B;
+
+// The place of a join's halving.
+pub const HALVED: usize = C;
+
+// The place of an output's or a waiting entry's node.
+pub const NODE: usize = A;
+
+// The place of an output's value.
+pub const VALUE: usize = B;
+
+// The place of an output's number.
+pub const NUMBER: usize = C;
+
+// The place of a waiting entry's weight.
+pub const WEIGHT: usize = B;
+
+// The place of a node's maximum.
+pub const MAXIMUM: usize = 4;
+
+// The place of a node's height.
+pub const HEIGHT: usize = 5;
+
+// The place of a word that is 0 in every record.
+pub const ROLE: usize = 6;
+
+// The place of the last word, 0 in every record.
+pub const INDEX: usize = 7;
+
+// The largest word.
+pub const MOST_WORD: u64 = u32::MAX as u64;
+
+// The last place that a word names.
+pub const MOST_PLACE: usize = u32::MAX as usize;
+
 // What of the lent memory is used, and whether it was too little: records of the store, words of the clause buffer, the
 // next fresh number, clauses in all.
 pub struct Marks {
@@ -20,7 +92,7 @@ pub struct Marks {
     pub full: bool,
 }
 
-// The words of a record; the last two are 0.
+// The words of a record by their places; the last two are 0.
 pub struct Fields {
     pub kind: u32,
     pub a: u32,
@@ -56,81 +128,81 @@ pub fn field(s: &[u32], records: usize, n: usize, k: usize) -> u32
     if records <= n {
         return 0;
     }
-    if s.len() / 8 <= n {
+    if s.len() / WORDS <= n {
         return 0;
     }
-    if 8 <= k {
+    if WORDS <= k {
         return 0;
     }
-    word(s, 8 * n + k)
+    word(s, WORDS * n + k)
 }
 
 // Whether node n of the first `records` is a join. Constant time.
 pub fn joins(s: &[u32], records: usize, n: u32) -> bool
     ensures { λ r. ⌜ ((rs : List Record) → Stores (now (s .entry)) records rs → r ≡ is-join (nodeAt rs n .kind)) ⌝ }
 {
-    field(s, records, n as usize, 0) == 2
+    field(s, records, n as usize, KIND) == JOIN
 }
 
 // Whether node n is a join whose right side is halved. Constant time.
 pub fn halved(s: &[u32], records: usize, n: u32) -> bool
     ensures { λ r. ⌜ ((rs : List Record) → Stores (now (s .entry)) records rs → r ≡ is-halved (nodeAt rs n .kind)) ⌝ }
 {
-    if field(s, records, n as usize, 0) != 2 {
+    if field(s, records, n as usize, KIND) != JOIN {
         return false;
     }
-    field(s, records, n as usize, 3) == 1
+    field(s, records, n as usize, HALVED) == 1
 }
 
 // The left link of node n, 0 where it is no join. Constant time.
 pub fn left(s: &[u32], records: usize, n: u32) -> u32
     ensures { λ r. ⌜ ((rs : List Record) → Stores (now (s .entry)) records rs → r ≡ left-link (nodeAt rs n .kind)) ⌝ }
 {
-    if field(s, records, n as usize, 0) != 2 {
+    if field(s, records, n as usize, KIND) != JOIN {
         return 0;
     }
-    field(s, records, n as usize, 1)
+    field(s, records, n as usize, LEFT)
 }
 
 // The right link of node n, 0 where it is no join. Constant time.
 pub fn right(s: &[u32], records: usize, n: u32) -> u32
     ensures { λ r. ⌜ ((rs : List Record) → Stores (now (s .entry)) records rs → r ≡ right-link (nodeAt rs n .kind)) ⌝ }
 {
-    if field(s, records, n as usize, 0) != 2 {
+    if field(s, records, n as usize, KIND) != JOIN {
         return 0;
     }
-    field(s, records, n as usize, 2)
+    field(s, records, n as usize, RIGHT)
 }
 
 // The maximum of node n, 0 where there is no node. Constant time.
 pub fn maximum(s: &[u32], records: usize, n: u32) -> u32
     ensures { λ r. ⌜ ((rs : List Record) → Stores (now (s .entry)) records rs → r ≡ nodeAt rs n .maximum) ⌝ }
 {
-    field(s, records, n as usize, 4)
+    field(s, records, n as usize, MAXIMUM)
 }
 
 // The height of node n, 0 where there is no node. Constant time.
 pub fn height(s: &[u32], records: usize, n: u32) -> u32
     ensures { λ r. ⌜ ((rs : List Record) → Stores (now (s .entry)) records rs → r ≡ nodeAt rs n .height) ⌝ }
 {
-    field(s, records, n as usize, 5)
+    field(s, records, n as usize, HEIGHT)
 }
 
 // The eight words of record n; nothing past the last whole record. Constant time.
 pub fn put_record(s: &mut [u32], n: usize, x: Fields)
     ensures { λ _. ⌜ now (s .exit) ≡ put-record (now (s .entry)) n (fields x) ⌝ }
 {
-    if s.len() / 8 <= n {
+    if s.len() / WORDS <= n {
         return;
     }
-    put(s, 8 * n, x.kind);
-    put(s, 8 * n + 1, x.a);
-    put(s, 8 * n + 2, x.b);
-    put(s, 8 * n + 3, x.c);
-    put(s, 8 * n + 4, x.maximum);
-    put(s, 8 * n + 5, x.height);
-    put(s, 8 * n + 6, 0);
-    put(s, 8 * n + 7, 0);
+    put(s, WORDS * n, x.kind);
+    put(s, WORDS * n + A, x.a);
+    put(s, WORDS * n + B, x.b);
+    put(s, WORDS * n + C, x.c);
+    put(s, WORDS * n + MAXIMUM, x.maximum);
+    put(s, WORDS * n + HEIGHT, x.height);
+    put(s, WORDS * n + ROLE, 0);
+    put(s, WORDS * n + INDEX, 0);
 }
 
 // The marks with the full mark set. Constant time.

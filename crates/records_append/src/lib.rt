@@ -12,6 +12,9 @@ ghost use Rattle.records_append.specs.Fresh.{with-numbers};
 use records::Fields;
 use records::Marks;
 
+// The next fresh number where every variable is taken, in a width that holds sums.
+const MOST_FRESH: u64 = rules::MOST_FRESH as u64;
+
 // A record's place and the marks after it; the place is right where there was room.
 pub struct Made {
     pub node: u32,
@@ -26,13 +29,13 @@ pub fn append(s: &mut [u32], m: Marks, x: Fields) -> Made
         return Made { node: 0, marks: m };
     }
     let n = m.records;
-    if s.len() / 8 <= n {
+    if s.len() / records::WORDS <= n {
         return Made {
             node: 0,
             marks: records::full(m),
         };
     }
-    if 4294967295 < n {
+    if records::MOST_PLACE < n {
         return Made {
             node: 0,
             marks: records::full(m),
@@ -59,7 +62,7 @@ pub fn leaf(s: &mut [u32], m: Marks, w: u32) -> Made
         s,
         m,
         Fields {
-            kind: 1,
+            kind: records::LEAF,
             a: w,
             b: 0,
             c: 0,
@@ -77,7 +80,7 @@ pub fn dummy(s: &mut [u32], m: Marks) -> Made
         s,
         m,
         Fields {
-            kind: 3,
+            kind: records::DUMMY,
             a: 0,
             b: 0,
             c: 0,
@@ -131,19 +134,19 @@ pub fn join(s: &mut [u32], m: Marks, half: bool, l: u32, r: u32) -> Made
         return Made { node: 0, marks: m };
     }
     let n = m.records;
-    let right = counted(half, records::field(s, n, r as usize, 4));
-    let maximum = sum(records::field(s, n, l as usize, 4), right);
+    let right = counted(half, records::field(s, n, r as usize, records::MAXIMUM));
+    let maximum = sum(records::field(s, n, l as usize, records::MAXIMUM), right);
     let height = above(
-        records::field(s, n, l as usize, 5),
-        records::field(s, n, r as usize, 5),
+        records::field(s, n, l as usize, records::HEIGHT),
+        records::field(s, n, r as usize, records::HEIGHT),
     );
-    if 4294967295 < maximum {
+    if records::MOST_WORD < maximum {
         return Made {
             node: 0,
             marks: records::full(m),
         };
     }
-    if 4294967295 < height {
+    if records::MOST_WORD < height {
         return Made {
             node: 0,
             marks: records::full(m),
@@ -153,7 +156,7 @@ pub fn join(s: &mut [u32], m: Marks, half: bool, l: u32, r: u32) -> Made
         s,
         m,
         Fields {
-            kind: 2,
+            kind: records::JOIN,
             a: l,
             b: r,
             c: bit(half),
@@ -171,7 +174,7 @@ pub fn numbers(m: Marks, many: u32) -> Marks
     if m.full {
         return m;
     }
-    if 1000000001 < (m.fresh as u64) + (many as u64) {
+    if MOST_FRESH < (m.fresh as u64) + (many as u64) {
         return records::full(m);
     }
     Marks {
@@ -191,14 +194,14 @@ pub fn output(s: &mut [u32], m: Marks, node: u32, v: u32) -> Marks
         return m;
     }
     let fresh = m.fresh;
-    if 1000000000 < fresh {
+    if rules::MOST_VARIABLE < fresh {
         return records::full(m);
     }
     let z = append(
         s,
         m,
         Fields {
-            kind: 4,
+            kind: records::OUTPUT,
             a: node,
             b: v,
             c: 2 * fresh,
@@ -217,7 +220,7 @@ pub fn waiting(s: &mut [u32], m: Marks, node: u32, weight: u32) -> Marks
         s,
         m,
         Fields {
-            kind: 5,
+            kind: records::WAITING,
             a: node,
             b: weight,
             c: 0,

@@ -12,17 +12,17 @@ ghost use Rattle.records_waiting.specs.Weight.{weight-of};
 pub fn waits(store: &[u32], records: usize, i: usize) -> bool
     ensures { λ r. ⌜ ((rs : List Record) → Stores (now (store .entry)) records rs → r ≡ waits (getD rs i unknown)) ⌝ }
 {
-    records::field(store, records, i, 0) == 5
+    records::field(store, records, i, records::KIND) == records::WAITING
 }
 
 // The weight of record i, 0 where it is no waiting entry.
 fn weight(store: &[u32], records: usize, i: usize) -> u32
     ensures { λ r. ⌜ ((rs : List Record) → Stores (now (store .entry)) records rs → r ≡ weight-of (getD rs i unknown)) ⌝ }
 {
-    if records::field(store, records, i, 0) != 5 {
+    if records::field(store, records, i, records::KIND) != records::WAITING {
         return 0;
     }
-    records::field(store, records, i, 2)
+    records::field(store, records, i, records::WEIGHT)
 }
 
 fn larger(x: u32, y: u32) -> u32

@@ -19,7 +19,7 @@ fn lists_differ(lits: &[i32], weights: &[u64]) -> bool
     if lits.len() != weights.len() {
         return true;
     }
-    256 < lits.len()
+    rules::MOST_INPUTS < lits.len()
 }
 
 // 2. Linear.
@@ -73,7 +73,7 @@ fn weight_unlawful(weights: &[u64]) -> bool
         if weights[i] == 0 {
             return true;
         }
-        if 1048575 < weights[i] {
+        if rules::MOST_WEIGHT < weights[i] {
             return true;
         }
         i += 1;
@@ -102,7 +102,7 @@ fn fresh_unlawful(lits: &[i32], first: u32) -> bool
     if first == 0 {
         return true;
     }
-    if 1000000000 < first {
+    if rules::MOST_VARIABLE < first {
         return true;
     }
     reaches(lits, first)

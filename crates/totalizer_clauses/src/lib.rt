@@ -8,6 +8,9 @@ ghost use Rattle.records.specs.Carries.{st, Steps, with-clause};
 ghost use Rattle.totalizer_clauses.specs.Spread.{Spread};
 use records::Marks;
 
+// The largest number whose double fits a word.
+const MOST_HALF: u32 = u32::MAX / 2;
+
 // Output v less x, not below 0.
 fn less(v: u32, x: u32) -> u32
     ensures { λ r. ⌜ r ≡ v - x ⌝ }
@@ -77,7 +80,7 @@ pub fn through(half: bool, b: u32) -> u32
     ensures { λ r. ⌜ (asks half b < 4294967296 → r ≡ asks half b) ⌝ }
 {
     if half {
-        if 2147483647 < b {
+        if MOST_HALF < b {
             return 0;
         }
         return 2 * b;
@@ -157,7 +160,7 @@ pub fn finish(
         return m;
     }
     let fresh = m.fresh;
-    if 1000000000 < fresh {
+    if rules::MOST_VARIABLE < fresh {
         return records::full(m);
     }
     let n = write(s, c, m, half, l, r, v, lo, many, 2 * fresh);

@@ -10,6 +10,9 @@ ghost use Rattle.rules.specs.Refinement.{extend};
 ghost use Rattle.records.specs.Carries.{st, Steps};
 use records::Marks;
 
+// The largest value that fits a word.
+const MOST_VALUE: usize = u32::MAX as usize;
+
 fn define_by(s: &mut [u32], c: &mut [i32], m: Marks, node: u32, v: u32, height: u32) -> Marks
     ensures { λ z. ⌜ Steps (st (now (s .entry)) (now (c .entry)) m) (st (now (s .exit)) (now (c .exit)) z) (λ t. define height t node v) ⌝ }
 {
@@ -109,7 +112,7 @@ pub fn define_from(
     let mut v = first as usize;
     let mut k = many;
     while 0 < k {
-        if 4294967295 < v {
+        if MOST_VALUE < v {
             return n;
         }
         n = define(s, c, n, node, v as u32);

@@ -13,13 +13,13 @@ ghost use Rattle.totalizer_find.specs.Hit.{hit-at};
 fn hit(s: &[u32], records: usize, i: usize, node: u32, v: u32) -> bool
     ensures { λ r. ⌜ r ≡ hit-at (now (s .entry)) records i node v ⌝ }
 {
-    if records::field(s, records, i, 0) != 4 {
+    if records::field(s, records, i, records::KIND) != records::OUTPUT {
         return false;
     }
-    if records::field(s, records, i, 1) != node {
+    if records::field(s, records, i, records::NODE) != node {
         return false;
     }
-    records::field(s, records, i, 2) == v
+    records::field(s, records, i, records::VALUE) == v
 }
 
 // The number of output v of the node as a literal's word, 0 where it is not defined. Linear in the records.
@@ -29,7 +29,7 @@ pub fn find(s: &[u32], records: usize, node: u32, v: u32) -> u32
     let mut i: usize = 0;
     while i < records {
         if hit(s, records, i, node, v) {
-            return records::field(s, records, i, 3);
+            return records::field(s, records, i, records::NUMBER);
         }
         i += 1;
     }
@@ -40,8 +40,8 @@ pub fn find(s: &[u32], records: usize, node: u32, v: u32) -> u32
 pub fn literal(s: &[u32], records: usize, node: u32, v: u32) -> u32
     ensures { λ r. ⌜ ((rs : List Record) → Stores (now (s .entry)) records rs → r ≡ literal-word (literal-of (nodeAt rs node .kind) (number-of rs node v))) ⌝ }
 {
-    if records::field(s, records, node as usize, 0) == 1 {
-        return records::field(s, records, node as usize, 1);
+    if records::field(s, records, node as usize, records::KIND) == records::LEAF {
+        return records::field(s, records, node as usize, records::LITERAL);
     }
     find(s, records, node, v)
 }

@@ -17,6 +17,9 @@ use rules::Answer;
 use rules::Started;
 use rules::State;
 
+// The words of an input: a leaf and a waiting entry.
+const INPUT_WORDS: usize = 2 * records::WORDS;
+
 // The marks of a store where nothing is used.
 fn blank(first: u32) -> Marks
     ensures { λ r. ⌜ r ≡ blank-marks first ⌝ }
@@ -87,9 +90,9 @@ fn state(inputs: u32, sum: u64, set: u64, records: usize, first: u32) -> State
         clauses: 0,
         variables: 0,
         fresh: first,
-        tares: [0; 19],
+        tares: [0; rules::MOST_TARES],
         tares_used: 0,
-        buckets: [0; 20],
+        buckets: [0; rules::MOST_BUCKETS],
         buckets_used: 0,
     }
 }
@@ -103,7 +106,7 @@ fn begin(lits: &[i32], weights: &[u64], first: u32, store: &mut [u32], clauses: 
 {
     let m = leaves(store, blank(first), lits);
     waits(store, m, weights);
-    records::zero_words(store, 16 * lits.len());
+    records::zero_words(store, INPUT_WORDS * lits.len());
     records::zero_signed(clauses, 0);
     state(lits.len() as u32, sum(weights), 1, 2 * lits.len(), first)
 }
