@@ -15,9 +15,9 @@ use rules::State;
 pub struct Structure {
     pub marks: Marks,
     pub head: usize,
-    pub tares: [u32; 19],
+    pub tares: [u32; rules::MOST_TARES],
     pub tares_used: u32,
-    pub buckets: [u32; 20],
+    pub buckets: [u32; rules::MOST_BUCKETS],
     pub buckets_used: u32,
 }
 

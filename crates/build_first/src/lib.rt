@@ -41,7 +41,13 @@ pub fn build_structure(
         l as usize,
         k,
     );
-    let buckets = build_arrays::append_buckets([0; 20], 0, work, 2132 - t.used, t.used);
+    let buckets = build_arrays::append_buckets(
+        [0; rules::MOST_BUCKETS],
+        0,
+        work,
+        build_line::MADE_END - t.used,
+        t.used,
+    );
     let marks = t.marks;
     Structure {
         marks,

@@ -16,6 +16,12 @@ use encode_outputs::Places;
 use encode_outputs::Range;
 use rules::State;
 
+// Where a build's work words begin, behind what is set aside.
+const BUILD: usize = 3072;
+
+// Where the weights of its queue begin.
+const BUILD_WEIGHTS: usize = BUILD + build_line::PLACES;
+
 // What stands of a state whose waiting entries begin at record n. Constant time.
 fn standing(s: State, n: usize) -> Structure
     ensures { λ z. ⌜ z ≡ standing s n ⌝ }
@@ -24,7 +30,7 @@ fn standing(s: State, n: usize) -> Structure
     let buckets = s.buckets;
     Structure {
         marks: build_begin::marks_at(s, n),
-        head: 512,
+        head: build_line::PLACES,
         tares,
         tares_used: s.tares_used,
         buckets,
@@ -63,13 +69,13 @@ fn rebuilt(
     requires { ⌜ Begins s (now store) (now clauses) range × (n ≡ length (buildOf s (now store) .arena .records)) × (s .set ≤ largest (buildOf s (now store) .queue)) × (16384 ≤ length (now work)) ⌝ }
     ensures { λ z. ⌜ Reached (buildOf s (now (store .entry)) .buckets) (st (now (store .entry)) (now (clauses .entry)) (marks-at s n)) (st (now (store .exit)) (now (clauses .exit)) (z .marks)) (encode-outputs (prepared (buildOf s (now (store .entry)))) (range .lo) (range .end)) z × (length (now (work .exit)) ≡ length (now (work .entry))) × (take 3072 (now (work .exit)) ≡ take 3072 (now (work .entry))) ⌝ }
 {
-    let z = structured(s, store, clauses, &mut work[3072..], n);
+    let z = structured(s, store, clauses, &mut work[BUILD..], n);
     let at = z.head;
     let queue = Places {
-        node: 3072 + at,
-        weight: 3584 + at,
+        node: BUILD + at,
+        weight: BUILD_WEIGHTS + at,
         apart: 1,
-        many: 512 - at,
+        many: build_line::PLACES - at,
     };
     encode_outputs::completed(store, clauses, work, z, range, queue)
 }

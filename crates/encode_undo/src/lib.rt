@@ -9,6 +9,12 @@ ghost use Rattle.encode_undo.specs.Copies.{copied, Saves, Restores};
 ghost use Rattle.encode_undo.specs.Aside.{Roomy, Aside, Kept};
 use rules::State;
 
+// Where the words of the waiting records stand in the work slice.
+const WAITING: usize = 0;
+
+// Where those of the buckets' records do, behind at most 256 waiting records.
+const BUCKETS: usize = records::WORDS * rules::MOST_INPUTS;
+
 // n words of one slice, from a on, over those of another from b on. Linear in the words.
 fn copy(from: &[u32], a: usize, to: &mut [u32], b: usize, n: usize)
     requires { ⌜ (a + n ≤ length (now from)) × (b + n ≤ length (now to)) ⌝ }
@@ -21,26 +27,38 @@ fn copy(from: &[u32], a: usize, to: &mut [u32], b: usize, n: usize)
     }
 }
 
-// The eight words of bucket i to the work words from 2048 + 8 i on. A copy a bucket, at most 20.
-fn save_buckets(s: &[u32], work: &mut [u32], buckets: [u32; 20], used: usize)
+// The words of each bucket's record to the work words, in order. A copy a bucket, at most 20.
+fn save_buckets(s: &[u32], work: &mut [u32], buckets: [u32; rules::MOST_BUCKETS], used: usize)
     requires { ⌜ (used ≤ 20) × (2208 ≤ length (now work)) × All (λ b. 8 * b + 8 ≤ length (now s)) (take used buckets) ⌝ }
     ensures { λ _. ⌜ Saves (now (s .entry)) (now (work .entry)) (now (work .exit)) buckets used ⌝ }
 {
     let mut i: usize = 0;
     while i < used {
-        copy(s, 8 * (buckets[i] as usize), work, 2048 + 8 * i, 8);
+        copy(
+            s,
+            records::WORDS * (buckets[i] as usize),
+            work,
+            BUCKETS + records::WORDS * i,
+            records::WORDS,
+        );
         i += 1;
     }
 }
 
 // The words of the buckets as they were saved. A copy a bucket, at most 20.
-fn restore_buckets(s: &mut [u32], work: &[u32], buckets: [u32; 20], used: usize)
+fn restore_buckets(s: &mut [u32], work: &[u32], buckets: [u32; rules::MOST_BUCKETS], used: usize)
     requires { ⌜ (used ≤ 20) × (2208 ≤ length (now work)) × All (λ b. 8 * b + 8 ≤ length (now s)) (take used buckets) ⌝ }
     ensures { λ _. ⌜ Restores (now (s .entry)) (now (s .exit)) (now (work .entry)) buckets used ⌝ }
 {
     let mut k: usize = 0;
     while k < used {
-        copy(work, 2048 + 8 * k, s, 8 * (buckets[k] as usize), 8);
+        copy(
+            work,
+            BUCKETS + records::WORDS * k,
+            s,
+            records::WORDS * (buckets[k] as usize),
+            records::WORDS,
+        );
         k += 1;
     }
 }
@@ -50,7 +68,13 @@ pub fn set_aside(s: State, store: &[u32], work: &mut [u32], n: usize)
     requires { ⌜ Roomy s (now store) (now work) n ⌝ }
     ensures { λ _. ⌜ Aside s (now (store .entry)) (now (work .exit)) n × (length (now (work .exit)) ≡ length (now (work .entry))) ⌝ }
 {
-    copy(store, 8 * n, work, 0, 8 * (s.records - n));
+    copy(
+        store,
+        records::WORDS * n,
+        work,
+        WAITING,
+        records::WORDS * (s.records - n),
+    );
     let buckets = s.buckets;
     save_buckets(store, work, buckets, s.buckets_used as usize);
 }
@@ -62,5 +86,11 @@ pub fn put_back(s: State, store: &mut [u32], work: &[u32], n: usize)
 {
     let buckets = s.buckets;
     restore_buckets(store, work, buckets, s.buckets_used as usize);
-    copy(work, 0, store, 8 * n, 8 * (s.records - n));
+    copy(
+        work,
+        WAITING,
+        store,
+        records::WORDS * n,
+        records::WORDS * (s.records - n),
+    );
 }

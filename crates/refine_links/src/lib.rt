@@ -43,7 +43,7 @@ fn put_bucket(s: &mut [u32], n: usize, b: Bucket)
         s,
         n,
         Fields {
-            kind: 2,
+            kind: records::JOIN,
             a: b.left,
             b: b.right,
             c: 1,
@@ -65,10 +65,10 @@ fn link(s: &mut [u32], records: usize, b: u32, below: u32) -> bool
         records::height(s, records, l),
         records::height(s, records, below),
     );
-    if 4294967295 < maximum {
+    if records::MOST_WORD < maximum {
         return false;
     }
-    if 4294967295 < height {
+    if records::MOST_WORD < height {
         return false;
     }
     let renewed = Bucket {
@@ -83,7 +83,13 @@ fn link(s: &mut [u32], records: usize, b: u32, below: u32) -> bool
 
 // The used buckets from the last to the first, each linked to the one below it, the last to `below`; false, and stopped, where a
 // maximum or height does not fit a word. A turn a bucket, at most 20.
-pub fn relink(s: &mut [u32], records: usize, buckets: [u32; 20], used: usize, below: u32) -> bool
+pub fn relink(
+    s: &mut [u32],
+    records: usize,
+    buckets: [u32; rules::MOST_BUCKETS],
+    used: usize,
+    below: u32,
+) -> bool
     requires { ⌜ used ≤ 20 ⌝ }
     ensures { λ r. ⌜ Relinks (now (s .entry)) (now (s .exit)) records (take used buckets) below r ⌝ }
 {
@@ -109,13 +115,18 @@ fn former_half(s: &[u32], records: usize, b: u32) -> u32
 
 // Half the maximum of the right link of each used bucket, before they are linked anew; other slots are 0. A turn a bucket, at
 // most 20.
-pub fn former_halves(s: &[u32], records: usize, buckets: [u32; 20], used: usize) -> [u32; 20]
+pub fn former_halves(
+    s: &[u32],
+    records: usize,
+    buckets: [u32; rules::MOST_BUCKETS],
+    used: usize,
+) -> [u32; rules::MOST_BUCKETS]
     requires { ⌜ used ≤ 20 ⌝ }
     ensures halves { λ r. ⌜ ((rs : List Record) → Stores (now (s .entry)) records rs → take used r ≡ map (former-half rs) (take used buckets)) ⌝ }
     ensures rest { λ r. ⌜ drop used r ≡ replicate (20 - used) 0 ⌝ }
     ensures length { λ r. ⌜ length r ≡ 20 ⌝ }
 {
-    let mut halves: [u32; 20] = [0; 20];
+    let mut halves: [u32; rules::MOST_BUCKETS] = [0; rules::MOST_BUCKETS];
     let mut i: usize = 0;
     while i < used {
         halves[i] = former_half(s, records, buckets[i]);

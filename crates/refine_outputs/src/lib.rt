@@ -20,14 +20,14 @@ fn extend_record(s: &mut [u32], c: &mut [i32], m: Marks, node: u32, most: u32, i
         return m;
     }
     let n = m.records;
-    if records::field(s, n, i, 0) != 4 {
+    if records::field(s, n, i, records::KIND) != records::OUTPUT {
         return m;
     }
-    if records::field(s, n, i, 1) != node {
+    if records::field(s, n, i, records::NODE) != node {
         return m;
     }
-    let v = records::field(s, n, i, 2);
-    let o = records::field(s, n, i, 3);
+    let v = records::field(s, n, i, records::VALUE);
+    let o = records::field(s, n, i, records::NUMBER);
     totalizer_define::extend(s, c, m, node, most, v, o)
 }
 
@@ -59,9 +59,9 @@ pub fn extend_buckets(
     c: &mut [i32],
     m: Marks,
     old: usize,
-    buckets: [u32; 20],
+    buckets: [u32; rules::MOST_BUCKETS],
     used: usize,
-    halves: [u32; 20],
+    halves: [u32; rules::MOST_BUCKETS],
 ) -> Marks
     requires { ⌜ used ≤ 20 ⌝ }
     ensures { λ z. ⌜ ((e : St) (t : Arena) (before : List Record) → Carries e (st (now (s .entry)) (now (c .entry)) m) t → old ≤ length (t .records) →

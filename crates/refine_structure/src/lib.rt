@@ -22,7 +22,12 @@ use records::Marks;
 use rules::State;
 
 // Tares with the numbers from a first one on, below those of a state. A turn a tare.
-fn new_tares(first: u32, many: usize, old: [u32; 19], used: usize) -> [u32; 19]
+fn new_tares(
+    first: u32,
+    many: usize,
+    old: [u32; rules::MOST_TARES],
+    used: usize,
+) -> [u32; rules::MOST_TARES]
     requires { ⌜ (many + used ≤ 19) × (first + many < 4294967296) ⌝ }
     ensures { λ r. ⌜ r ≡ padded 0 19 (rising many first ++ take used old) ⌝ }
 {
@@ -38,7 +43,7 @@ fn highest(work: &[u32], used: usize) -> u32
     if used == 0 {
         return 0;
     }
-    records::word(work, 2132 - used)
+    records::word(work, build_line::MADE_END - used)
 }
 
 // The used buckets linked anew in place, the last to `below`, and their outputs among the old records extended. A pass over the
@@ -48,10 +53,10 @@ fn renew(
     clauses: &mut [i32],
     m: Marks,
     old: usize,
-    buckets: [u32; 20],
+    buckets: [u32; rules::MOST_BUCKETS],
     used: usize,
     below: u32,
-    halves: [u32; 20],
+    halves: [u32; rules::MOST_BUCKETS],
 ) -> Marks
     requires { ⌜ used ≤ 20 ⌝ }
     ensures { λ z. ⌜ ((s₀ : List ℕ) (m₀ : Marks) (before : List Record) (d : ℕ) (t : Arena) →
@@ -74,7 +79,7 @@ fn segment(
     work: &mut [u32],
     m: Marks,
     h: usize,
-    tares: [u32; 19],
+    tares: [u32; rules::MOST_TARES],
 ) -> Segment
     requires { ⌜ Queued (now work) h × (1 ≤ s .set) × Spans s × (m .fresh + added s ≤ 1000000001 → All (λ t. t < 2147483648) tares) ⌝ }
     ensures { λ z. ⌜ ((c : List ℤ) → largest (line (now (work .entry)) h) < 2 ^ (top-bit (s .built) + spare s) →
@@ -131,7 +136,13 @@ pub fn merge_structures(
         below,
         halves,
     );
-    let buckets = build_arrays::append_buckets(above, used, work, 2132 - t.used, t.used);
+    let buckets = build_arrays::append_buckets(
+        above,
+        used,
+        work,
+        build_line::MADE_END - t.used,
+        t.used,
+    );
     Structure {
         marks,
         head: t.head,

@@ -24,7 +24,7 @@ pub fn encode_ub_change(
         let answer = Answer::Refused(12);
         return encode_end::encoded(answer, s);
     }
-    if work.len() < 16384 {
+    if work.len() < rules::WORK_WORDS {
         let answer = Answer::Refused(6);
         return encode_end::encoded(answer, s);
     }
