@@ -16,7 +16,7 @@ use Rattle.rules.specs.Queue.{heavier, run, others}
 use Rattle.laws.specs.Lists.Facts.{All, All-map, All-append, All-second}
 use Rattle.laws.specs.Lists.Sorts.{Ordered}
 use Rattle.laws.specs.Queue.Runs.{all-largest}
-use Rattle.records.specs.Words.{word-at}
+use Rattle.records_words.specs.Words.{word-at}
 use Rattle.build_line.specs.Work.{line-from, line}
 use Rattle.build_line.proofs.Lines.{line-parts}
 

@@ -6,7 +6,7 @@ use Prim.Native.Nat.{ℕ, zero, suc, _+_, _*_, _-_, _^_, _≤_, _<_}
 use native.Mathlib.Omega.{arith}
 use lib.ListN.{length, getD, set, take, drop, replicate, length-take, length-drop, length-set}
 use lib.Seq.{getD-drop, drop-drop, getD-set-same, getD-set-other, drop-set-lt, drop-set-add, take-set-le, take-suc-set}
-use Rattle.records.specs.Words.{word-at, put-word}
+use Rattle.records_words.specs.Words.{word-at, put-word}
 use Rattle.records.proofs.Grow.{le-or}
 use Rattle.build_line.specs.Work.{line, count-at, members-at, members-from}
 use Rattle.build_line.proofs.Lines.{line-same}

@@ -18,7 +18,7 @@ use Rattle.records.proofs.Grow.{Grows, grows-trans}
 use Rattle.records.proofs.Step.{stop, makes-then, makes-same, makes-full}
 use Rattle.records_append.specs.Fresh.{with-numbers}
 use borrow.Author.Tests.{ltb-true, ltb-false, eqb-true, eqb-false}
-use Rattle.records.specs.Words.{put-word}
+use Rattle.records_words.specs.Words.{put-word}
 use Rattle.build_line.specs.Work.{line, line-from, count-at}
 use Rattle.build_queue.specs.Queued.{sorting}
 use Rattle.build_queue.proofs.Gathering.{queue-run-grows}

@@ -29,7 +29,7 @@ fn clear_counts(work: &mut [u32])
 {
     let mut k: usize = 0;
     while k < rules::MOST_BUCKETS {
-        records::put(work, build_line::COUNTS + k, 0);
+        records_words::put(work, build_line::COUNTS + k, 0);
         k += 1;
     }
 }

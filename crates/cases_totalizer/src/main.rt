@@ -107,7 +107,7 @@ fn leaves(s: &mut [u32], members: &mut [u32], m: Marks) -> Marks {
     while i < 256 {
         let leaf = records_append::leaf(s, n, 2 * i + 2);
         n = leaf.marks;
-        records::put(members, i as usize, leaf.node);
+        records_words::put(members, i as usize, leaf.node);
         i += 1;
     }
     n

@@ -40,9 +40,9 @@ fn settled(
     requires { ⌜ 8 * s .records ≤ length (now store) ⌝ }
     ensures { λ r. ⌜ record { answer = r; store = now (store .exit); clauses = now (clauses .exit); work = now (work .exit) } ≡ settled answer s (now (store .entry)) (now (clauses .entry)) (now (work .entry)) ⌝ }
 {
-    records::zero_words(store, records::WORDS * s.records);
-    records::zero_signed(clauses, s.words);
-    records::zero_words(work, 0);
+    records_words::zero_words(store, records::WORDS * s.records);
+    records_words::zero_signed(clauses, s.words);
+    records_words::zero_words(work, 0);
     encoded(answer, s)
 }
 

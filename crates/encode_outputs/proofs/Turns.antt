@@ -13,7 +13,7 @@ use Rattle.rules.specs.Records.{Record, waiting, literal-word, nodeAt}
 use Rattle.rules.specs.Totalizer.{Arena, number-of, define-output}
 use Rattle.numbers.proofs.Bits.{power-whole}
 use Rattle.records.specs.declared.Marks.{Marks}
-use Rattle.records.specs.Words.{word-at}
+use Rattle.records_words.specs.Words.{word-at}
 use Rattle.records.specs.Carries.{St, st, marksOf, Steps, Stores, with-record, with-records}
 use Rattle.records.proofs.Step.{Rest, rest-turn, stop, held}
 use Rattle.totalizer_define.proofs.Growth.{turns-grow, output-grows}

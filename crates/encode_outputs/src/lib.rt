@@ -107,7 +107,12 @@ fn append_waiting(store: &mut [u32], m: Marks, work: &[u32], at: Places) -> Mark
     let mut y = at.weight;
     let mut k = at.many;
     while 0 < k {
-        n = records_append::waiting(store, n, records::word(work, x), records::word(work, y));
+        n = records_append::waiting(
+            store,
+            n,
+            records_words::word(work, x),
+            records_words::word(work, y),
+        );
         x += at.apart;
         y += at.apart;
         k -= 1;

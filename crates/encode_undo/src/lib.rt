@@ -22,7 +22,7 @@ fn copy(from: &[u32], a: usize, to: &mut [u32], b: usize, n: usize)
 {
     let mut i: usize = 0;
     while i < n {
-        records::put(to, b + i, records::word(from, a + i));
+        records_words::put(to, b + i, records_words::word(from, a + i));
         i += 1;
     }
 }

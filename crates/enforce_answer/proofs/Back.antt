@@ -14,7 +14,7 @@ use Rattle.rules.specs.Enforce.{set-tares}
 use Rattle.laws.specs.Records.Words.{literal-word-literal}
 use Rattle.laws.specs.Lists.Facts.{All, All-getD}
 use Rattle.numbers.specs.Signed.{put-signed}
-use Rattle.records.specs.Words.{Buf, buf}
+use Rattle.records_clauses.specs.Clauses.{Buf, buf}
 use Rattle.enforce_answer.specs.Tares.{tare-step, tares-back}
 
 -- one law for each way of a step

@@ -5,7 +5,7 @@ use Prim.Native.Nat.{ℕ, zero, suc, _+_, _-_, _/_, _%_}
 use lib.Dec.{eqb}
 use lib.IntN.{pos}
 use Rattle.numbers.specs.Signed.{put-signed}
-use Rattle.records.specs.Words.{Buf, buf}
+use Rattle.records_clauses.specs.Clauses.{Buf, buf}
 
 -- where the lowest bit is set, the tare in the word before
 unfoldable pub tare-step : Buf → ℕ → ℕ → Buf

@@ -11,7 +11,7 @@ ghost use Rattle.rules.specs.Records.{leaf, nodeAt, word-literal};
 ghost use Rattle.rules.specs.Build.{Build, buildOf, root};
 ghost use Rattle.rules.specs.Enforce.{set-tares, one-answer, root-answer, built-answer, enforce};
 ghost use Rattle.laws.specs.Lists.Facts.{All};
-ghost use Rattle.records.specs.Words.{buf};
+ghost use Rattle.records_clauses.specs.Clauses.{buf};
 ghost use Rattle.records_waiting.specs.Read.{Readable};
 ghost use Rattle.enforce_answer.specs.Tares.{tare-step};
 ghost use Rattle.enforce_answer.specs.Ends.{Ended};

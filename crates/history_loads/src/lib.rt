@@ -15,7 +15,7 @@ struct Seen {
 
 // Whether a literal, given by its word, holds where these variables are 1. Constant time.
 fn holds(truth: &[u32], w: u32) -> bool {
-    let one = records::word(truth, numbers::variable(w) as usize) == 1;
+    let one = records_words::word(truth, numbers::variable(w) as usize) == 1;
     if numbers::positive(w) {
         return one;
     }
@@ -61,7 +61,7 @@ fn end(p: Seen, truth: &mut [u32]) -> Seen {
     if p.free == 0 {
         return next_clause(p.raised, true);
     }
-    records::put(truth, numbers::variable(p.free) as usize, 1);
+    records_words::put(truth, numbers::variable(p.free) as usize, 1);
     next_clause(true, p.refuted)
 }
 
@@ -116,15 +116,15 @@ fn admits(c: &[i32], answer: &[i32], truth: &mut [u32], first: u32) -> bool {
 fn put_literal(truth: &mut [u32], w: u32, bit: u32) {
     let variable = numbers::variable(w) as usize;
     if numbers::positive(w) {
-        records::put(truth, variable, bit % 2);
+        records_words::put(truth, variable, bit % 2);
         return;
     }
-    records::put(truth, variable, 1 - bit % 2);
+    records_words::put(truth, variable, 1 - bit % 2);
 }
 
 // Assignment n: input literal i is true exactly where bit i is set; every other variable is 0. Linear in the variables.
 fn assign(lits: &[i32], truth: &mut [u32], n: u32) {
-    records::zero_words(truth, 0);
+    records_words::zero_words(truth, 0);
     let mut rest = n;
     let mut i: usize = 0;
     while i < lits.len() {
@@ -219,7 +219,7 @@ pub fn loads(s: State, lits: &[i32], clauses: &[i32], answer: &[i32]) {
 fn place(slots: &[u32], used: usize, n: u32) -> usize {
     let mut i: usize = 0;
     while i < used {
-        if records::word(slots, i) == n {
+        if records_words::word(slots, i) == n {
             return i;
         }
         i += 1;

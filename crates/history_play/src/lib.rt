@@ -237,7 +237,7 @@ fn call(
 fn fill_words(s: &mut [u32], from: usize, w: u32) {
     let mut i = from;
     while i < s.len() {
-        records::put(s, i, w);
+        records_words::put(s, i, w);
         i += 1;
     }
 }
@@ -277,7 +277,7 @@ fn turn(
         return s;
     }
     if letter == b'a' {
-        records::put(
+        records_words::put(
             store,
             history_text::long(line, 1),
             history_text::short(line, 2),

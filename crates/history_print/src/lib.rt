@@ -24,7 +24,7 @@ pub fn bar() {
 pub fn words(s: &[u32], from: usize, to: usize) {
     let mut i = from;
     while i < to {
-        number(records::word(s, i) as u64);
+        number(records_words::word(s, i) as u64);
         i += 1;
     }
 }
@@ -48,7 +48,7 @@ pub fn digest_words(s: &[u32], from: usize, to: usize) {
     let mut h: u64 = 0;
     let mut i = from;
     while i < to {
-        h = digest_with(h, records::word(s, i));
+        h = digest_with(h, records_words::word(s, i));
         i += 1;
     }
     digest(from, to, h);

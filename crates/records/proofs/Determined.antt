@@ -1,19 +1,12 @@
--- Any two results that the promise of a public function allows are equal; for readers of records, where the words store some; for a
--- step, wherever the arena that it leads to fits, and they agree on the full mark everywhere.
+-- Any two results that the promise of a public function allows are equal; for readers of records, where the words store some.
 use mathlib.Core.Path.{_≡_, sym, _∙_}
 use mathlib.Core.List.{List}
-use Prim.Native.Nat.{ℕ}
 use borrow.Fn.Kinds.{Dens, resT, endedOf}
 use denote.Triple.Clauses.{AtExit}
 use contract.Lifetimes.{Lfts}
 use Rattle.rules.specs.Records.{Record}
 use Rattle.numbers.proofs.Determined.{One-result}
-use Rattle.records.specs.Carries.{st, Stores, with-clause, clause-of}
-use Rattle.records.proofs.Entry.{Same-end, steps-determined}
-use Rattle.records.proofs.word.Kinds as word-kinds
-use Rattle.records.proofs.word.Reads as word
-use Rattle.records.proofs.put.Kinds as put-kinds
-use Rattle.records.proofs.put.Reads as put
+use Rattle.records.specs.Carries.{Stores}
 use Rattle.records.proofs.field.Kinds as field-kinds
 use Rattle.records.proofs.field.Reads as field
 use Rattle.records.proofs.joins.Kinds as joins-kinds
@@ -32,19 +25,6 @@ use Rattle.records.proofs.put_record.Kinds as put-record-kinds
 use Rattle.records.proofs.put_record.Reads as put-record
 use Rattle.records.proofs.full.Kinds as full-kinds
 use Rattle.records.proofs.full.Reads as full
-use Rattle.records.proofs.zero_words.Kinds as zero-words-kinds
-use Rattle.records.proofs.zero_words.Reads as zero-words
-use Rattle.records.proofs.zero_signed.Kinds as zero-signed-kinds
-use Rattle.records.proofs.zero_signed.Reads as zero-signed
-use Rattle.records.proofs.put_clause.Kinds as put-clause-kinds
-use Rattle.records.proofs.put_clause.Reads as put-clause
-
-pub word-determined : One-result 1 word-kinds.ps word-kinds.r word.Post
-word-determined κs a x y e f p q = p ∙ sym q
-
-pub put-determined : (κs : Lfts 1) (a : Dens κs put-kinds.ps) (x y : resT put-kinds.r κs .Denot) (e f : AtExit (endedOf 1 put-kinds.ps put-kinds.r) κs) →
-    put.Post κs a x e → put.Post κs a y f → e .0 .now ≡ f .0 .now
-put-determined κs a x y e f p q = p ∙ sym q
 
 pub field-determined : One-result 1 field-kinds.ps field-kinds.r field.Post
 field-determined κs a x y e f p q = p ∙ sym q
@@ -79,16 +59,3 @@ put-record-determined κs a x y e f p q = p ∙ sym q
 
 pub full-determined : One-result 0 full-kinds.ps full-kinds.r full.Post
 full-determined κs a x y e f p q = p ∙ sym q
-
-pub zero-words-determined : (κs : Lfts 1) (a : Dens κs zero-words-kinds.ps) (x y : resT zero-words-kinds.r κs .Denot) (e f : AtExit (endedOf 1 zero-words-kinds.ps zero-words-kinds.r) κs) →
-    zero-words.Post κs a x e → zero-words.Post κs a y f → e .0 .now ≡ f .0 .now
-zero-words-determined κs a x y e f p q = p ∙ sym q
-
-pub zero-signed-determined : (κs : Lfts 1) (a : Dens κs zero-signed-kinds.ps) (x y : resT zero-signed-kinds.r κs .Denot) (e f : AtExit (endedOf 1 zero-signed-kinds.ps zero-signed-kinds.r) κs) →
-    zero-signed.Post κs a x e → zero-signed.Post κs a y f → e .0 .now ≡ f .0 .now
-zero-signed-determined κs a x y e f p q = p ∙ sym q
-
-pub put-clause-determined : (κs : Lfts 1) (a : Dens κs put-clause-kinds.ps) (x y : resT put-clause-kinds.r κs .Denot) (e f : AtExit (endedOf 1 put-clause-kinds.ps put-clause-kinds.r) κs) →
-    put-clause.Post κs a x e → put-clause.Post κs a y f → (s : List ℕ) →
-    Same-end (st s (a .0 .now) (a .1 .0)) (st s (e .0 .now) x) (st s (f .0 .now) y) (with-clause (clause-of (a .1 .1 .0) (a .1 .1 .1 .0) (a .1 .1 .1 .1 .0)))
-put-clause-determined κs a x y e f p q s = steps-determined _ _ _ _ (p s) (q s)

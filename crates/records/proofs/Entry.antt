@@ -18,8 +18,10 @@ use Rattle.laws.specs.Records.Words.{record-image-length, image-length}
 use Rattle.laws.specs.WellFormed.Whole.{records-length}
 use Rattle.records.specs.declared.Marks.{Marks}
 use Rattle.records.specs.Words.{put-record}
-use Rattle.records.specs.Carries.{St, st, storeOf, bufferOf, marksOf, laid, written, peak, Fits, Holds, Carries, Steps, Makes, Lent, read-arena}
-use Rattle.records.proofs.Lay.{laid-length, laid-again, laid-front, front-laid, image-more}
+use Rattle.records.specs.Carries.{St, st, storeOf, bufferOf, marksOf, written, peak, Fits, Holds, Carries, Steps, Makes, Lent, read-arena}
+use Rattle.records_words.specs.Words.{laid}
+use Rattle.records_words.proofs.Lay.{laid-length, laid-again, laid-front, front-laid}
+use Rattle.records.proofs.Image.{image-more}
 use Rattle.records.proofs.Grow.{fits-or}
 use Rattle.records.proofs.Step.{going}
 

@@ -1,5 +1,5 @@
 -- What a rule needs grows: records, clause words, the next number, maxima and heights.
-use mathlib.Core.Path.{_≡_, refl, ap}
+use mathlib.Core.Path.{_≡_, refl}
 use mathlib.Core.Bool.{Bool, true, false}
 use mathlib.Core.Logic.{_⊎_, inl, inr}
 use mathlib.Core.List.{List, [], _∷_, _++_}
@@ -12,8 +12,7 @@ use borrow.Author.Tests.{leb-true, leb-false}
 use Rattle.rules.specs.Records.{Record}
 use Rattle.rules.specs.Totalizer.{Arena}
 use Rattle.rules.specs.Build.{clause-words}
-use Rattle.records.specs.Carries.{St, storeOf, bufferOf, marksOf, written, peak, Fits, with-records, with-record, with-clause}
-use Rattle.records.proofs.Lay.{words-append}
+use Rattle.records.specs.Carries.{St, storeOf, bufferOf, marksOf, written, peak, Fits, with-records, with-record}
 
 -- u needs at least what t needs
 pub record Grows (t u : Arena) : Type 0 where
@@ -91,12 +90,3 @@ records-more t rs = record {
 pub record-grows : (r : Record) (t : Arena) → Grows t (with-record r t)
 unfolding with-record
 record-grows r t = records-more t (r ∷ [])
-
-pub clause-grows : (c : List ℤ) (t : Arena) → Grows t (with-clause c t)
-unfolding with-clause
-clause-grows c t = record {
-  records-grow = omega arith;
-  words-grow = omega (arith, ap length (words-append (t .clauses) (c ∷ [])), length-append (clause-words (t .clauses)) (clause-words (c ∷ [])));
-  fresh-grow = omega arith;
-  sizes-grow = omega arith;
-}

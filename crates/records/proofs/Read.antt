@@ -14,7 +14,7 @@ use Rattle.laws.specs.Records.Words.{image-length}
 use Rattle.records.specs.declared.Fields.{Fields}
 use Rattle.records.specs.Words.{field-at, fields}
 use Rattle.records.specs.Carries.{Stores, size, is-join, is-halved}
-use Rattle.records.proofs.Lay.{image-word}
+use Rattle.records.proofs.Image.{image-word}
 
 -- the fifth word of any record is its maximum, the sixth its height
 node-maximum : (k : Kind) (m h : ℕ) → getD (node-image k m h) 4 0 ≡ m

@@ -14,8 +14,9 @@ use Rattle.rules.specs.Build.{clause-words}
 use Rattle.laws.specs.Records.Words.{image-length}
 use Rattle.records.specs.declared.Marks.{Marks}
 use Rattle.records.specs.Words.{full-of}
-use Rattle.records.specs.Carries.{St, st, storeOf, bufferOf, marksOf, laid, written, Fits, Holds, Carries, Steps, Makes, Stores}
-use Rattle.records.proofs.Lay.{laid-length, laid-front}
+use Rattle.records.specs.Carries.{St, st, storeOf, bufferOf, marksOf, written, Fits, Holds, Carries, Steps, Makes, Stores}
+use Rattle.records_words.specs.Words.{laid}
+use Rattle.records_words.proofs.Lay.{laid-length, laid-front}
 use Rattle.records.proofs.Grow.{Grows, fits-less, fits-or}
 
 pub steps-none : (σ : St) → Steps σ σ (λ t. t)

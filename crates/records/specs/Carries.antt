@@ -6,11 +6,11 @@ use mathlib.Core.List.{List, [], _∷_, _++_}
 use Prim.Native.Nat.{ℕ, _+_, _*_, _≤_, _<_, max}
 use lib.ListN.{length, take, drop}
 use lib.IntN.{ℤ}
-use Rattle.rules.specs.Records.{Kind, leaf, join, dummy, Record, node-of, imageOf, recordsOf, word-literal}
+use Rattle.rules.specs.Records.{Kind, leaf, join, dummy, Record, node-of, imageOf, recordsOf}
 use Rattle.rules.specs.Totalizer.{Arena}
 use Rattle.rules.specs.Build.{clause-words}
 use Rattle.records.specs.declared.Marks.{Marks}
-use Rattle.records.specs.Words.{side-of}
+use Rattle.records_words.specs.Words.{laid}
 
 -- store, clause buffer and marks
 pub data St : Type 0 where
@@ -24,10 +24,6 @@ bufferOf (st s c m) = c
 
 abbrev pub marksOf : St → Marks
 marksOf (st s c m) = m
-
--- a list laid over the front of another
-unfoldable pub laid : {A : Type 0} → List A → List A → List A
-laid xs s = xs ++ drop (length xs) s
 
 -- the buffer's used words: those of the entry e, then the clauses
 unfoldable pub written : St → Arena → List ℤ
@@ -118,15 +114,6 @@ with-record r t = with-records t (t .records ++ (r ∷ []))
 unfoldable pub placed : Record → Arena → Arena × ℕ
 unfolding with-record
 placed r t = (with-record r t, length (t .records))
-
--- one clause more
-unfoldable pub with-clause : List ℤ → Arena → Arena
-with-clause c t = record { records = t .records; fresh = t .fresh; clauses = t .clauses ++ (c ∷ []) }
-
--- a clause of two sides and an output, by their words
-unfoldable pub clause-of : ℕ → ℕ → ℕ → List ℤ
-unfolding side-of
-clause-of p q o = side-of p ++ (side-of q ++ (word-literal o ∷ []))
 
 -- what is lent, read as an arena: nothing written yet
 unfoldable pub read-arena : St → Arena

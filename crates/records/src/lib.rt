@@ -1,14 +1,10 @@
-// Records and clauses in lent words: eight words to a record, clause words closed by 0, for slices of any length.
-// A read past the end is 0 and a write past the end does nothing.
+// Records in lent words: eight words to a record, for slices of any length. A read past the end is 0 and a write past the end does
+// nothing.
 ghost use mathlib.Core.Path.{_≡_};
 ghost use mathlib.Core.List.{List};
-ghost use Prim.Native.Nat.{ℕ, _+_, _*_, _<_};
-ghost use lib.ListN.{length, take};
-ghost use lib.IntN.{pos};
-ghost use Rattle.rules.specs.Lists.{padded};
 ghost use Rattle.rules.specs.Records.{Record, nodeAt, left-link, right-link};
-ghost use Rattle.records.specs.Words.{word-at, put-word, field-at, fields, put-record, side-of, buf, push, push-side, push-clause, more-of, full-of};
-ghost use Rattle.records.specs.Carries.{st, Steps, Stores, with-clause, clause-of, is-join, is-halved};
+ghost use Rattle.records.specs.Words.{field-at, fields, put-record, full-of};
+ghost use Rattle.records.specs.Carries.{Stores, is-join, is-halved};
 
 // The words of a record.
 pub const WORDS: usize = 8;
@@ -102,25 +98,6 @@ pub struct Fields {
     pub height: u32,
 }
 
-// The word at i. Constant time.
-pub fn word(s: &[u32], i: usize) -> u32
-    ensures { λ r. ⌜ r ≡ word-at (now (s .entry)) i ⌝ }
-{
-    if i < s.len() {
-        return s[i];
-    }
-    0
-}
-
-// A word written at i. Constant time.
-pub fn put(s: &mut [u32], i: usize, w: u32)
-    ensures { λ _. ⌜ now (s .exit) ≡ put-word (now (s .entry)) i w ⌝ }
-{
-    if i < s.len() {
-        s[i] = w;
-    }
-}
-
 // Word k of record n of the first `records`, 0 where there is none. Constant time.
 pub fn field(s: &[u32], records: usize, n: usize, k: usize) -> u32
     ensures { λ r. ⌜ r ≡ field-at (now (s .entry)) records n k ⌝ }
@@ -134,7 +111,7 @@ pub fn field(s: &[u32], records: usize, n: usize, k: usize) -> u32
     if WORDS <= k {
         return 0;
     }
-    word(s, WORDS * n + k)
+    records_words::word(s, WORDS * n + k)
 }
 
 // Whether node n of the first `records` is a join. Constant time.
@@ -195,14 +172,14 @@ pub fn put_record(s: &mut [u32], n: usize, x: Fields)
     if s.len() / WORDS <= n {
         return;
     }
-    put(s, WORDS * n, x.kind);
-    put(s, WORDS * n + A, x.a);
-    put(s, WORDS * n + B, x.b);
-    put(s, WORDS * n + C, x.c);
-    put(s, WORDS * n + MAXIMUM, x.maximum);
-    put(s, WORDS * n + HEIGHT, x.height);
-    put(s, WORDS * n + ROLE, 0);
-    put(s, WORDS * n + INDEX, 0);
+    records_words::put(s, WORDS * n, x.kind);
+    records_words::put(s, WORDS * n + A, x.a);
+    records_words::put(s, WORDS * n + B, x.b);
+    records_words::put(s, WORDS * n + C, x.c);
+    records_words::put(s, WORDS * n + MAXIMUM, x.maximum);
+    records_words::put(s, WORDS * n + HEIGHT, x.height);
+    records_words::put(s, WORDS * n + ROLE, 0);
+    records_words::put(s, WORDS * n + INDEX, 0);
 }
 
 // The marks with the full mark set. Constant time.
@@ -215,100 +192,5 @@ pub fn full(m: Marks) -> Marks
         fresh: m.fresh,
         clauses: m.clauses,
         full: true,
-    }
-}
-
-// All words from a mark to the end set to 0. Linear in the words set.
-pub fn zero_words(s: &mut [u32], from: usize)
-    ensures { λ _. ⌜ now (s .exit) ≡ padded 0 (length (now (s .entry))) (take from (now (s .entry))) ⌝ }
-{
-    let mut i = from;
-    while i < s.len() {
-        put(s, i, 0);
-        i += 1;
-    }
-}
-
-// All signed words from a mark to the end set to 0. Linear in the words set.
-pub fn zero_signed(c: &mut [i32], from: usize)
-    ensures { λ _. ⌜ now (c .exit) ≡ padded (pos 0) (length (now (c .entry))) (take from (now (c .entry))) ⌝ }
-{
-    let mut i = from;
-    while i < c.len() {
-        numbers::put_signed(c, i, 0);
-        i += 1;
-    }
-}
-
-// The words that a side takes: none where it is 1, which is no literal's word.
-fn width(w: u32) -> usize
-    ensures { λ r. ⌜ r ≡ length (side-of w) ⌝ }
-{
-    if w == 1 {
-        return 0;
-    }
-    1
-}
-
-// A literal at the end of the words.
-fn push(c: &mut [i32], i: usize, w: u32) -> usize
-    ensures { λ r. ⌜ buf (now (c .exit)) r ≡ push (buf (now (c .entry)) i) w ⌝ }
-{
-    if i < c.len() {
-        numbers::put_signed(c, i, w);
-        return i + 1;
-    }
-    i
-}
-
-fn push_side(c: &mut [i32], i: usize, w: u32) -> usize
-    ensures { λ r. ⌜ buf (now (c .exit)) r ≡ push-side (buf (now (c .entry)) i) w ⌝ }
-{
-    if w == 1 {
-        return i;
-    }
-    push(c, i, w)
-}
-
-fn push_clause(c: &mut [i32], i: usize, p: u32, q: u32, o: u32) -> usize
-    ensures { λ r. ⌜ buf (now (c .exit)) r ≡ push-clause (buf (now (c .entry)) i) p q o ⌝ }
-{
-    let j = push_side(c, i, p);
-    let k = push_side(c, j, q);
-    let l = push(c, k, o);
-    push(c, l, 0)
-}
-
-// One more than x, where that is at most the top.
-fn more(x: usize, top: usize) -> usize
-    ensures { λ r. ⌜ r ≡ more-of x top ⌝ }
-{
-    if x < top {
-        return x + 1;
-    }
-    x
-}
-
-// A clause of two sides and an output, closed by 0; a side that is 1 is left out. Constant time.
-pub fn put_clause(c: &mut [i32], m: Marks, p: u32, q: u32, o: u32) -> Marks
-    ensures { λ z. ⌜ ((s : List ℕ) → Steps (st s (now (c .entry)) m) (st s (now (c .exit)) z) (with-clause (clause-of p q o))) ⌝ }
-{
-    if m.full {
-        return m;
-    }
-    let w = m.words;
-    if c.len() < w {
-        return full(m);
-    }
-    if c.len() - w < width(p) + width(q) + 2 {
-        return full(m);
-    }
-    let k = push_clause(c, w, p, q, o);
-    Marks {
-        records: m.records,
-        words: k,
-        fresh: m.fresh,
-        clauses: more(m.clauses, k),
-        full: m.full,
     }
 }

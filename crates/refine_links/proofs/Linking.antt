@@ -17,7 +17,7 @@ use Rattle.laws.specs.WellFormed.Keeps.{All-reverse}
 use Rattle.laws.specs.Records.Words.{image-length}
 use Rattle.records.specs.Words.{put-record}
 use Rattle.records.specs.Carries.{Stores, size, peak}
-use Rattle.records.proofs.Lay.{laid-front}
+use Rattle.records_words.proofs.Lay.{laid-front}
 use Rattle.records.proofs.Entry.{patched}
 use Rattle.refine_links.specs.declared.Bucket.{Bucket}
 use Rattle.refine_links.specs.Patched.{bucket-words}

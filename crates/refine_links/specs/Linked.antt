@@ -8,7 +8,8 @@ use Rattle.rules.specs.Records.{Node, Record, node, nodeAt, left-link, imageOf}
 use Rattle.rules.specs.Totalizer.{joining}
 use Rattle.rules.specs.Refinement.{relink}
 use Rattle.laws.specs.Lists.Facts.{All, occurs}
-use Rattle.records.specs.Carries.{laid, size, peak}
+use Rattle.records_words.specs.Words.{laid}
+use Rattle.records.specs.Carries.{size, peak}
 
 -- the words lie over s₀ as the image of rs, whose maxima and heights fit a word
 pub record Lies (s : List ℕ) (records : ℕ) (s₀ : List ℕ) (rs : List Record) : Type 0 where

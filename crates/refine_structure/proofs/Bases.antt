@@ -12,7 +12,8 @@ use Rattle.rules.specs.Build.{clause-words}
 use Rattle.laws.specs.Lists.Facts.{occurs}
 use Rattle.laws.specs.Records.Words.{image-length}
 use Rattle.records.specs.declared.Marks.{Marks}
-use Rattle.records.specs.Carries.{St, storeOf, marksOf, laid, written, Fits, Holds, Carries}
+use Rattle.records.specs.Carries.{St, storeOf, marksOf, written, Fits, Holds, Carries}
+use Rattle.records_words.specs.Words.{laid}
 use Rattle.refine_structure.specs.Based.{Based}
 
 pub based-self : (bs : List ℕ) (e : St) (n : ℕ) → Based bs e e n

@@ -17,7 +17,8 @@ use Rattle.laws.specs.WellFormed.Keeps.{All-reverse}
 use Rattle.laws.specs.Records.Words.{image-length}
 use Rattle.records.specs.declared.Marks.{Marks}
 use Rattle.records.specs.Words.{full-of}
-use Rattle.records.specs.Carries.{St, st, laid, Fits, Holds, Carries, with-records}
+use Rattle.records.specs.Carries.{St, st, Fits, Holds, Carries, with-records}
+use Rattle.records_words.specs.Words.{laid}
 use Rattle.records.proofs.Grow.{Grows, fits-less}
 use Rattle.records.proofs.Step.{over, going}
 use Rattle.refine_links.specs.Linked.{Relinks}

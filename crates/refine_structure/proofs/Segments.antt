@@ -27,7 +27,7 @@ use Rattle.laws.specs.Buckets.Towers.{Tower}
 use Rattle.preserve.specs.Given.{set-positive, waiting-below, buckets-there, buckets-inside}
 use Rattle.preserve.specs.Gathered.{Gathered, begun, gathered-made}
 use Rattle.preserve.specs.Refinement.{p, end, k, q, wait, mss, new-tares, built-tower}
-use Rattle.records.specs.Words.{word-at}
+use Rattle.records_words.specs.Words.{word-at}
 use Rattle.records.specs.Carries.{St, written, Fits, with-records}
 use Rattle.records.proofs.Grow.{fits-less}
 use Rattle.records.proofs.Small.{peak-sound}

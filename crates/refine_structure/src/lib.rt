@@ -43,7 +43,7 @@ fn highest(work: &[u32], used: usize) -> u32
     if used == 0 {
         return 0;
     }
-    records::word(work, build_line::MADE_END - used)
+    records_words::word(work, build_line::MADE_END - used)
 }
 
 // The used buckets linked anew in place, the last to `below`, and their outputs among the old records extended. A pass over the

@@ -7,7 +7,7 @@ use native.Mathlib.Omega.{arith}
 use lib.ListN.{length, length-append}
 use Rattle.rules.specs.Totalizer.{Arena, clause, write, take-number}
 use Rattle.rules.specs.Build.{clause-words}
-use Rattle.records.proofs.Lay.{words-append}
+use Rattle.records.proofs.Image.{words-append}
 use Rattle.records.proofs.Grow.{Grows, grows-trans}
 use Rattle.records_append.proofs.Appending.{number-grows}
 

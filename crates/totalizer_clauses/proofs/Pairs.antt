@@ -7,7 +7,8 @@ use native.Mathlib.Omega.{arith}
 use lib.IntN.{ℤ}
 use Rattle.rules.specs.Records.{Record, nodeAt}
 use Rattle.rules.specs.Totalizer.{Arena, counts, asks, pairs-from, pairs, clause, write}
-use Rattle.records.specs.Carries.{Stores, with-clause}
+use Rattle.records.specs.Carries.{Stores}
+use Rattle.records_clauses.specs.Clauses.{with-clause}
 use Rattle.totalizer_clauses.specs.Spread.{Spread}
 
 -- fewer pairs lie within v too

@@ -4,7 +4,8 @@ ghost use Prim.Native.Nat.{ℕ, suc, _+_, _-_, _<_, _≤_, min};
 ghost use lib.IntN.{pos};
 ghost use Rattle.rules.specs.Records.{literal-word};
 ghost use Rattle.rules.specs.Totalizer.{asks, pairs-from, clause, write, take-number};
-ghost use Rattle.records.specs.Carries.{st, Steps, with-clause};
+ghost use Rattle.records.specs.Carries.{st, Steps};
+ghost use Rattle.records_clauses.specs.Clauses.{with-clause};
 ghost use Rattle.totalizer_clauses.specs.Spread.{Spread};
 use records::Marks;
 
@@ -108,7 +109,7 @@ fn pair_clause(
     let n = m.records;
     let p = totalizer_find::side(s, n, l, a);
     let q = totalizer_find::side(s, n, r, through(half, b));
-    records::put_clause(c, m, p, q, o)
+    records_clauses::put_clause(c, m, p, q, o)
 }
 
 // The clauses of the pairs from lo on, a rising. Two finds for each.

@@ -13,7 +13,8 @@ use Rattle.rules.specs.Records.{Kind, leaf, join, dummy, Record, node, output, 
 use Rattle.rules.specs.Totalizer.{number-in, number-of, literal-of, side}
 use Rattle.laws.specs.Records.Words.{literal-word-literal, word-not-one}
 use Rattle.numbers.proofs.Literals.{word-literal-word}
-use Rattle.records.specs.Words.{field-at, side-of}
+use Rattle.records.specs.Words.{field-at}
+use Rattle.records_clauses.specs.Clauses.{side-of}
 use Rattle.records.specs.Carries.{Stores}
 use Rattle.records.proofs.Read.{field-is}
 use Rattle.totalizer_find.specs.Hit.{hit-at}

@@ -5,7 +5,7 @@ ghost use mathlib.Core.List.{List};
 ghost use lib.IntN.{pos};
 ghost use Rattle.rules.specs.Records.{Record, literal-word, nodeAt};
 ghost use Rattle.rules.specs.Totalizer.{number-of, literal-of, side};
-ghost use Rattle.records.specs.Words.{side-of};
+ghost use Rattle.records_clauses.specs.Clauses.{side-of};
 ghost use Rattle.records.specs.Carries.{Stores};
 ghost use Rattle.totalizer_find.specs.Hit.{hit-at};
 

@@ -106,8 +106,8 @@ fn begin(lits: &[i32], weights: &[u64], first: u32, store: &mut [u32], clauses: 
 {
     let m = leaves(store, blank(first), lits);
     waits(store, m, weights);
-    records::zero_words(store, INPUT_WORDS * lits.len());
-    records::zero_signed(clauses, 0);
+    records_words::zero_words(store, INPUT_WORDS * lits.len());
+    records_words::zero_signed(clauses, 0);
     state(lits.len() as u32, sum(weights), 1, 2 * lits.len(), first)
 }
 

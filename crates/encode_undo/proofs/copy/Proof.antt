@@ -4,7 +4,7 @@ use Prim.Native.Nat.{_≤_, _-_}
 use native.Mathlib.Omega.{arith}
 use borrow.Author.Needs.{needs}
 use lib.ListN.{length}
-use Rattle.records.specs.Words.{word-at, put-word}
+use Rattle.records_words.specs.Words.{word-at, put-word}
 use Rattle.encode_undo.specs.Copies.{copied}
 use Rattle.encode_undo.proofs.Copying.{copy-start, copy-turn, copy-end}
 use Rattle.encode_undo.proofs.copy.Statement.{statement}

@@ -1,6 +1,6 @@
 -- `put_tares` lays the tares from the back: what is left of the work is the whole work.
 use Prim.Native.Nat.{_≤_, _-_}
-use Rattle.records.specs.Words.{buf}
+use Rattle.records_clauses.specs.Clauses.{buf}
 use Rattle.enforce_answer.proofs.Back.{back-on, back-end, back-laid, tare-small, used-in, past-used}
 use Rattle.enforce_answer.specs.Tares.{tares-back}
 use lib.ListN.{length, take, drop}

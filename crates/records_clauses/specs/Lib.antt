@@ -1,0 +1,2 @@
+-- Clauses as words.
+pub mod Clauses

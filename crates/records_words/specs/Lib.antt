@@ -1,0 +1,2 @@
+-- Words read, written and laid over others.
+pub mod Words
