@@ -27,7 +27,7 @@ pub fn before_waiting(store: &[u32], records: usize) -> usize
 {
     let mut i: usize = 0;
     while i < records {
-        if records_waiting::waits(store, records, i) {
+        if records::is_waiting(store, records, i) {
             return i;
         }
         i += 1;

@@ -9,24 +9,12 @@ use lib.ListN.{length, getD, drop, drop-of-length-le}
 use lib.Seq.{drop-cons}
 use Rattle.rules.specs.Lists.{all}
 use Rattle.rules.specs.Records.{Kind, leaf, join, dummy, Record, nodeAt, right-link}
-use Rattle.rules.specs.WellFormed.{is-leaf, is-dummy, halved-to, ends-in, linked}
-use Rattle.records.specs.Carries.{is-join, is-halved}
+use Rattle.rules.specs.WellFormed.{is-dummy, halved-to, ends-in, linked}
+use Rattle.records.specs.Readers.{is-join, is-halved}
 use Rattle.check_buckets.specs.Links.{link-right, left-low}
 use Rattle.check_arrays.proofs.Walk.{along-on, along-stop, along-end}
 
 -- kinds
-pub dummy-join : (k : Kind) → is-join k ≡ true → false ≡ is-dummy k
-unfolding is-join is-dummy
-dummy-join (leaf x) e = absurd (false≢true e)
-dummy-join (join half l r) e = refl
-dummy-join dummy e = absurd (false≢true e)
-
-pub dummy-other : (k : Kind) → is-join k ≡ false → not (is-leaf k) ≡ is-dummy k
-unfolding is-join is-dummy is-leaf
-dummy-other (leaf x) e = refl
-dummy-other (join half l r) e = absurd (false≢true (sym e))
-dummy-other dummy e = refl
-
 pub halved-none : (c : ℕ) (k : Kind) → is-halved k ≡ false → false ≡ halved-to c k
 unfolding is-halved halved-to
 halved-none c (leaf x) e = refl

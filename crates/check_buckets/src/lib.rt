@@ -5,22 +5,12 @@ ghost use Prim.Native.Nat.{_+_, _<_};
 ghost use lib.ListN.{length, getD, drop};
 ghost use Rattle.rules.specs.Lists.{all};
 ghost use Rattle.rules.specs.Records.{Record, nodeAt};
-ghost use Rattle.rules.specs.WellFormed.{is-dummy, halved-to, ends-in, linked};
+ghost use Rattle.rules.specs.WellFormed.{halved-to, ends-in, linked};
 ghost use Rattle.records.specs.Carries.{Stores};
 ghost use Rattle.check_buckets.specs.Links.{link-right, left-low};
 
 // The largest left maximum: every input, and the tare.
 const MOST_LEFT: u32 = (rules::MOST_INPUTS as u32) + 1;
-
-// Whether node n is a dummy. Constant time.
-fn is_dummy(s: &[u32], records: usize, n: u32) -> bool
-    ensures { λ r. ⌜ ((rs : List Record) → Stores (now (s .entry)) records rs → r ≡ is-dummy (nodeAt rs n .kind)) ⌝ }
-{
-    if records::joins(s, records, n) {
-        return false;
-    }
-    !check_records::is_leaf(s, records, n)
-}
 
 // Whether node b is linked, halved, to c. Constant time.
 fn halved_to(s: &[u32], records: usize, b: u32, c: u32) -> bool
@@ -37,10 +27,10 @@ fn halved_to(s: &[u32], records: usize, b: u32, c: u32) -> bool
 fn ends_in(s: &[u32], records: usize, wait: bool, b: u32) -> bool
     ensures { λ r. ⌜ ((rs : List Record) → Stores (now (s .entry)) records rs → r ≡ ends-in rs wait (nodeAt rs b .kind)) ⌝ }
 {
-    if !records::joins(s, records, b) {
+    if !records::is_join(s, records, b) {
         return false;
     }
-    let d = is_dummy(s, records, records::right(s, records, b));
+    let d = records::is_dummy(s, records, records::right(s, records, b));
     if !wait {
         return !d;
     }

@@ -1,78 +1,49 @@
 -- The walks over inputs.
 use mathlib.Core.Path.{_≡_, refl, sym, ap, _∙_}
-use mathlib.Core.Bool.{Bool, true, false, not, _&&_, _||_}
+use mathlib.Core.Bool.{Bool, true, false, not, _&&_, _||_, false≢true}
 use mathlib.Core.List.{List, [], _∷_, _++_, map}
 use Prim.Native.Nat.{ℕ, _+_, _-_, _≤_, _<_, max}
 use native.Mathlib.Omega.{arith}
 use lib.Dec.{eqb, leb, ltb}
-use lib.ListN.{length, length-append, length-map, getD, drop}
+use lib.ListN.{length, length-append, length-map, drop}
 use lib.Seq.{drop-at}
 use lib.IntN.{natAbs}
 use borrow.Author.Tests.{eq-eqb, ne-eqb, eqb-true, eqb-false, lt-ltb, le-leb, leb-true, ltb-true}
 use Rattle.rules.specs.Lists.{all, any, among, keep, rising}
-use Rattle.rules.specs.Records.{Kind, leaf, join, dummy, Record, Entry, node, output, waiting, unknown, waits, node-of, node-image, record-image, literal-word, word-literal, entries, dummy-node}
+use Rattle.rules.specs.Records.{Kind, leaf, join, dummy, Record, Entry, node, output, waiting, unknown, waits, word-literal, entries}
 use Rattle.rules.specs.WellFormed.{variable-of, waiting-last}
 use Rattle.laws.specs.Records.Words.{literal-word-literal, both}
 use Rattle.laws.specs.Lists.Facts.{and-true}
 use Rattle.laws.specs.WellFormed.Clauses.{last-of}
-use Rattle.records.specs.declared.Fields.{Fields}
-use Rattle.records.specs.Words.{fields}
+use Rattle.records.specs.Readers.{leaf-word, entry-node}
 use Rattle.check_inputs.specs.Steps.{is-entry, waits-in}
 use Rattle.check_arrays.proofs.Walk.{same-truth, rest, rest-here, walk-start, walk-end}
 
--- a leaf's variable by its words
-module _ (f : Fields) where
-  pub variable-other : (r : Record) → fields f ≡ record-image r → (f .kind ≡ 1 → ⊥) → 0 ≡ variable-of (node-of r .kind)
-  unfolding record-image node-of node-image variable-of dummy-node
-  variable-other (node n) e k = go (n .kind) (n .maximum) (n .height) e
-    where
-      go : (kd : Kind) (m h : ℕ) → fields f ≡ node-image kd m h → 0 ≡ variable-of kd
-      go (leaf x) m h e = absurd (k (ap (λ ws. getD ws 0 0) e))
-      go (join half l r) m h e = refl
-      go dummy m h e = refl
-  variable-other (output o) e k = refl
-  variable-other (waiting w) e k = refl
-  variable-other unknown e k = refl
+-- a leaf's variable by its literal's word, which is 0 of any other node
+pub variable-word : (k : Kind) → natAbs (word-literal (leaf-word k)) ≡ variable-of k
+unfolding leaf-word variable-of word-literal
+variable-word (leaf x) = ap natAbs (literal-word-literal x)
+variable-word (join half l r) = refl
+variable-word dummy = refl
 
-  pub variable-leaf : (r : Record) → fields f ≡ record-image r → f .kind ≡ 1 → natAbs (word-literal (f .a)) ≡ variable-of (node-of r .kind)
-  unfolding record-image node-of node-image variable-of
-  variable-leaf (node n) e k = go (n .kind) (n .maximum) (n .height) e
-    where
-      go : (kd : Kind) (m h : ℕ) → fields f ≡ node-image kd m h → natAbs (word-literal (f .a)) ≡ variable-of kd
-      go (leaf x) m h e =
-          let a : f .a ≡ literal-word x = ap (λ ws. getD ws 1 0) e in
-          ap (λ (w : ℕ). natAbs (word-literal w)) a ∙ ap natAbs (literal-word-literal x)
-      go (join half l r) m h e = let z : f .kind ≡ 2 = ap (λ ws. getD ws 0 0) e in absurd (omega arith)
-      go dummy m h e = let z : f .kind ≡ 3 = ap (λ ws. getD ws 0 0) e in absurd (omega arith)
-  variable-leaf (output o) e k = let z : f .kind ≡ 4 = ap (λ ws. getD ws 0 0) e in absurd (omega arith)
-  variable-leaf (waiting w) e k = let z : f .kind ≡ 5 = ap (λ ws. getD ws 0 0) e in absurd (omega arith)
-  variable-leaf unknown e k = let z : f .kind ≡ 0 = ap (λ ws. getD ws 0 0) e in absurd (omega arith)
+-- a waiting entry of node n, or any other record
+pub entry-other : (n : ℕ) (r : Record) → waits r ≡ false → false ≡ is-entry n r
+unfolding waits is-entry
+entry-other n (node m) e = refl
+entry-other n (output o) e = refl
+entry-other n (waiting w) e = absurd (false≢true (sym e))
+entry-other n unknown e = refl
 
-  pub entry-other : (n : ℕ) (r : Record) → fields f ≡ record-image r → (f .kind ≡ 5 → ⊥) → false ≡ is-entry n r
-  unfolding record-image is-entry
-  entry-other n (node m) e k = refl
-  entry-other n (output o) e k = refl
-  entry-other n (waiting w) e k = absurd (k (ap (λ ws. getD ws 0 0) e))
-  entry-other n unknown e k = refl
-
-  pub entry-node : (n : ℕ) (r : Record) → fields f ≡ record-image r → f .kind ≡ 5 → eqb (f .a) n ≡ is-entry n r
-  unfolding record-image is-entry node-image
-  entry-node n (node m) e k = go (m .kind) (m .maximum) (m .height) e
-    where
-      go : (kd : Kind) (x h : ℕ) → fields f ≡ node-image kd x h → eqb (f .a) n ≡ false
-      go (leaf x) y h e = let z : f .kind ≡ 1 = ap (λ ws. getD ws 0 0) e in absurd (omega arith)
-      go (join half l r) y h e = let z : f .kind ≡ 2 = ap (λ ws. getD ws 0 0) e in absurd (omega arith)
-      go dummy y h e = let z : f .kind ≡ 3 = ap (λ ws. getD ws 0 0) e in absurd (omega arith)
-  entry-node n (output o) e k = let z : f .kind ≡ 4 = ap (λ ws. getD ws 0 0) e in absurd (omega arith)
-  entry-node n (waiting w) e k = go (eqb (f .a) n) refl
-    where
-      a : f .a ≡ w .node
-      a = ap (λ ws. getD ws 1 0) e
-
-      go : (b : Bool) → eqb (f .a) n ≡ b → b ≡ eqb n (w .node)
-      go true q = sym (eq-eqb n (w .node) (sym (eqb-true (f .a) n q) ∙ a))
-      go false q = sym (ne-eqb n (w .node) (λ z. eqb-false (f .a) n q (a ∙ sym z)))
-  entry-node n unknown e k = let z : f .kind ≡ 0 = ap (λ ws. getD ws 0 0) e in absurd (omega arith)
+pub entry-here : (n : ℕ) (r : Record) → waits r ≡ true → (x : ℕ) → x ≡ entry-node r → eqb x n ≡ is-entry n r
+unfolding waits is-entry entry-node
+entry-here n (node m) e x a = absurd (false≢true e)
+entry-here n (output o) e x a = absurd (false≢true e)
+entry-here n (waiting w) e x a = go (eqb x n) refl
+  where
+    go : (b : Bool) → eqb x n ≡ b → b ≡ eqb n (w .node)
+    go true q = sym (eq-eqb n (w .node) (sym (eqb-true x n q) ∙ a))
+    go false q = sym (ne-eqb n (w .node) (λ z. eqb-false x n q (a ∙ sym z)))
+entry-here n unknown e x a = absurd (false≢true e)
 
 -- the least number above the variables so far
 max-above : (low v n : ℕ) → leb (max low (v + 1)) n ≡ (leb low n && ltb v n)

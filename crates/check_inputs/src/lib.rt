@@ -3,11 +3,10 @@ ghost use mathlib.Core.Path.{_≡_};
 ghost use mathlib.Core.List.{List};
 ghost use Prim.Native.Nat.{ℕ, max};
 ghost use lib.Dec.{leb, ltb};
-ghost use lib.ListN.{drop};
+ghost use lib.ListN.{getD, drop};
 ghost use Rattle.rules.specs.Lists.{all, rising};
-ghost use Rattle.rules.specs.Records.{Record, record-image, nodeAt};
+ghost use Rattle.rules.specs.Records.{Record, unknown, nodeAt};
 ghost use Rattle.rules.specs.WellFormed.{is-leaf, variable-of};
-ghost use Rattle.records.specs.Words.{fields};
 ghost use Rattle.records.specs.Carries.{Stores};
 ghost use Rattle.check_inputs.specs.Steps.{is-entry, waits-in};
 
@@ -17,7 +16,7 @@ pub fn leaves_first(s: &[u32], records: usize, inputs: u32) -> bool
 {
     let mut i: u32 = 0;
     while i < inputs {
-        if !check_records::is_leaf(s, records, i) {
+        if !records::is_leaf(s, records, i) {
             return false;
         }
         i += 1;
@@ -29,11 +28,7 @@ pub fn leaves_first(s: &[u32], records: usize, inputs: u32) -> bool
 fn variable(s: &[u32], records: usize, n: u32) -> u32
     ensures { λ r. ⌜ ((rs : List Record) → Stores (now (s .entry)) records rs → r ≡ variable-of (nodeAt rs n .kind)) ⌝ }
 {
-    let f = check_records::read(s, records, n as usize);
-    if f.kind != records::LEAF {
-        return 0;
-    }
-    numbers::variable(f.a)
+    numbers::variable(records::literal(s, records, n))
 }
 
 // The larger number. Constant time.
@@ -59,14 +54,14 @@ pub fn lowest(s: &[u32], records: usize, inputs: u32) -> u64
     low
 }
 
-// Whether the record is a waiting entry of node n. Constant time.
-fn is_entry(f: records::Fields, n: u32) -> bool
-    ensures { λ x. ⌜ ((r : Record) → fields f ≡ record-image r → x ≡ is-entry n r) ⌝ }
+// Whether record i is a waiting entry of node n. Constant time.
+fn is_entry(s: &[u32], records: usize, i: usize, n: u32) -> bool
+    ensures { λ x. ⌜ ((rs : List Record) → Stores (now (s .entry)) records rs → x ≡ is-entry n (getD rs i unknown)) ⌝ }
 {
-    if f.kind != records::WAITING {
+    if !records::is_waiting(s, records, i) {
         return false;
     }
-    f.a == n
+    records::entry_node(s, records, i) == n
 }
 
 // Whether node n waits at `from` or later. Linear in the records from there.
@@ -75,7 +70,7 @@ fn waits_from(s: &[u32], records: usize, from: usize, n: u32) -> bool
 {
     let mut i = from;
     while i < records {
-        if is_entry(check_records::read(s, records, i), n) {
+        if is_entry(s, records, i, n) {
             return true;
         }
         i += 1;

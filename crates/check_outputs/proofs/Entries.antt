@@ -1,6 +1,6 @@
 -- The waiting entries' costs, one record at a time.
 use mathlib.Core.Path.{_≡_, refl, sym, ap, ap₂, _∙_}
-use mathlib.Core.Bool.{Bool, true, false}
+use mathlib.Core.Bool.{Bool, true, false, false≢true}
 use mathlib.Core.List.{List, _∷_}
 use Prim.Native.Nat.{ℕ, zero, suc, _+_, _-_, _≤_, _<_}
 use native.Mathlib.Omega.{arith}
@@ -9,46 +9,50 @@ use lib.ListN.{length, getD, drop, drop-of-length-le}
 use lib.Seq.{drop-cons}
 use borrow.Author.Tests.{lt-ltb, le-ltb, ltb-true, ltb-false}
 use Rattle.rules.specs.Lists.{total}
-use Rattle.rules.specs.Records.{Record, node, output, waiting, unknown, record-image, nodeAt, entries}
-use Rattle.records.specs.declared.Fields.{Fields}
-use Rattle.records.specs.Words.{fields}
-use Rattle.records.proofs.Read.{fields-entry}
+use Rattle.rules.specs.Records.{Record, node, output, waiting, unknown, nodeAt, entries, waits}
+use Rattle.records.specs.Readers.{entry-node, entry-weight}
 use Rattle.check_outputs.specs.declared.Budget.{Budget}
 use Rattle.check_outputs.specs.Steps.{cost, record-cost, total-cost, spent}
 
--- a record of kind 5 is an entry, and no other is one
-module _ (rs : List Record) (r : Record) (f : Fields) (e : fields f ≡ record-image r) (what : ℕ) where
-  pub cost-other : (f .kind ≡ 5 → ⊥) → 0 ≡ record-cost rs what r
-  unfolding record-cost record-image
-  cost-other k = go r e
+-- what is no waiting entry costs nothing
+pub cost-other : (rs : List Record) (r : Record) (what : ℕ) → waits r ≡ false → 0 ≡ record-cost rs what r
+unfolding record-cost waits
+cost-other rs (node n) what e = refl
+cost-other rs (output o) what e = refl
+cost-other rs (waiting w) what e = absurd (false≢true (sym e))
+cost-other rs unknown what e = refl
+
+-- a waiting entry, by what the readers say of it
+entry-parts : (r : Record) → waits r ≡ true → r ≡ waiting (record { node = entry-node r; weight = entry-weight r })
+unfolding waits entry-node entry-weight
+entry-parts (node n) e = absurd (false≢true e)
+entry-parts (output o) e = absurd (false≢true e)
+entry-parts (waiting w) e = refl
+entry-parts unknown e = absurd (false≢true e)
+
+module _ (rs : List Record) (r : Record) (what : ℕ) (is : waits r ≡ true) where
+  costs : cost rs what (record { node = entry-node r; weight = entry-weight r }) ≡ record-cost rs what r
+  unfolding record-cost
+  costs = ap (record-cost rs what) (sym (entry-parts r is))
+
+  pub cost-count : what ≡ 0 → 1 ≡ record-cost rs what r
+  unfolding cost
+  cost-count q = ap (λ (w : ℕ). cost rs w (record { node = entry-node r; weight = entry-weight r })) (sym q) ∙ costs
+
+  pub cost-maximum : what ≡ 1 → (n x : ℕ) → n ≡ entry-node r → x ≡ nodeAt rs n .maximum → x ≡ record-cost rs what r
+  unfolding cost
+  cost-maximum q n x en ex =
+      ex ∙ (ap (λ (m : ℕ). nodeAt rs m .maximum) en ∙
+      (ap (λ (w : ℕ). cost rs w (record { node = entry-node r; weight = entry-weight r })) (sym q) ∙ costs))
+
+  pub cost-weight : (what ≡ 0 → ⊥) → (what ≡ 1 → ⊥) → (x : ℕ) → x ≡ entry-weight r → x ≡ record-cost rs what r
+  unfolding cost
+  cost-weight n0 n1 x ex = ex ∙ (go what n0 n1 ∙ costs)
     where
-      go : (r : Record) → fields f ≡ record-image r → 0 ≡ record-cost rs what r
-      go (node n) e = refl
-      go (output o) e = refl
-      go (waiting w) e = absurd (k (ap (λ ws. getD ws 0 0) e))
-      go unknown e = refl
-
-  module _ (k : f .kind ≡ 5) where
-    costs : cost rs what (record { node = f .a; weight = f .b }) ≡ record-cost rs what r
-    unfolding record-cost
-    costs = ap (record-cost rs what) (sym (fields-entry r f e k))
-
-    pub cost-count : what ≡ 0 → 1 ≡ record-cost rs what r
-    unfolding cost
-    cost-count q = ap (λ (w : ℕ). cost rs w (record { node = f .a; weight = f .b })) (sym q) ∙ costs
-
-    pub cost-maximum : what ≡ 1 → (x : ℕ) → x ≡ nodeAt rs (f .a) .maximum → x ≡ record-cost rs what r
-    unfolding cost
-    cost-maximum q x ex = ex ∙ (ap (λ (w : ℕ). cost rs w (record { node = f .a; weight = f .b })) (sym q) ∙ costs)
-
-    pub cost-weight : (what ≡ 0 → ⊥) → (what ≡ 1 → ⊥) → f .b ≡ record-cost rs what r
-    unfolding cost
-    cost-weight n0 n1 = go what n0 n1 ∙ costs
-      where
-        go : (w : ℕ) → (w ≡ 0 → ⊥) → (w ≡ 1 → ⊥) → f .b ≡ cost rs w (record { node = f .a; weight = f .b })
-        go zero a b = absurd (a refl)
-        go (suc zero) a b = absurd (b refl)
-        go (suc (suc w)) a b = refl
+      go : (w : ℕ) → (w ≡ 0 → ⊥) → (w ≡ 1 → ⊥) → entry-weight r ≡ cost rs w (record { node = entry-node r; weight = entry-weight r })
+      go zero a b = absurd (a refl)
+      go (suc zero) a b = absurd (b refl)
+      go (suc (suc w)) a b = refl
 
 -- budgets
 module _ (left x t : ℕ) where

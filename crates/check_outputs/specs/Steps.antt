@@ -22,16 +22,16 @@ next-low low (waiting e) = low
 next-low low unknown = low
 
 -- the record is output v of node n
-unfoldable pub is-output : Record → ℕ → ℕ → Bool
-is-output (output o) n v = eqb n (o .node) && eqb v (o .value)
-is-output (node m) n v = false
-is-output (waiting e) n v = false
-is-output unknown n v = false
+unfoldable pub defines : Record → ℕ → ℕ → Bool
+defines (output o) n v = eqb n (o .node) && eqb v (o .value)
+defines (node m) n v = false
+defines (waiting e) n v = false
+defines unknown n v = false
 
 -- output v of node n stands among the records
 unfoldable pub defined-in : ℕ → ℕ → List Record → Bool
-unfolding any is-output
-defined-in n v rs = any (λ r. is-output r n v) rs
+unfolding any defines
+defined-in n v rs = any (λ r. defines r n v) rs
 
 -- the record is an output that stands among the records too
 unfoldable pub again-in : Record → List Record → Bool

@@ -3,11 +3,19 @@ ghost use mathlib.Core.Path.{_≡_};
 ghost use mathlib.Core.List.{List};
 ghost use Prim.Native.Nat.{_+_, _<_};
 ghost use lib.ListN.{getD, drop};
-ghost use Rattle.rules.specs.Records.{Record, unknown, record-image};
+ghost use Rattle.rules.specs.Records.{Record, unknown};
 ghost use Rattle.rules.specs.WellFormed.{outputs-rise, outputs-distinct};
-ghost use Rattle.records.specs.Words.{fields};
 ghost use Rattle.records.specs.Carries.{Stores};
-ghost use Rattle.check_outputs.specs.Steps.{rises, next-low, is-output, defined-in, again-in, record-cost, total-cost, spent};
+ghost use Rattle.check_outputs.specs.Steps.{rises, next-low, defines, defined-in, again-in, record-cost, total-cost, spent};
+
+// What an entry costs: it counts 1.
+pub const COUNT: u32 = 0;
+
+// What an entry costs: the maximum of its node.
+pub const MAXIMUM: u32 = 1;
+
+// What an entry costs: its weight.
+pub const WEIGHT: u32 = 2;
 
 // What is left of a budget, or that it is overspent.
 pub struct Budget {
@@ -15,24 +23,24 @@ pub struct Budget {
     pub left: u64,
 }
 
-// Whether the record, if it is an output, has a number of at least `low`. Constant time.
-fn rises(f: records::Fields, low: u64) -> bool
-    ensures { λ x. ⌜ ((r : Record) → fields f ≡ record-image r → x ≡ rises low r) ⌝ }
+// Whether record i, if it is an output, has a number of at least `low`. Constant time.
+fn rises(s: &[u32], records: usize, i: usize, low: u64) -> bool
+    ensures { λ x. ⌜ ((rs : List Record) → Stores (now (s .entry)) records rs → x ≡ rises low (getD rs i unknown)) ⌝ }
 {
-    if f.kind != records::OUTPUT {
+    if !records::is_output(s, records, i) {
         return true;
     }
-    low <= ((f.c / 2) as u64)
+    low <= (numbers::variable(records::output_number(s, records, i)) as u64)
 }
 
-// The least number of the next output. Constant time.
-fn next_low(f: records::Fields, low: u64) -> u64
-    ensures { λ x. ⌜ ((r : Record) → fields f ≡ record-image r → x ≡ next-low low r) ⌝ }
+// The least number of an output after record i. Constant time.
+fn next_low(s: &[u32], records: usize, i: usize, low: u64) -> u64
+    ensures { λ x. ⌜ ((rs : List Record) → Stores (now (s .entry)) records rs → x ≡ next-low low (getD rs i unknown)) ⌝ }
 {
-    if f.kind != records::OUTPUT {
+    if !records::is_output(s, records, i) {
         return low;
     }
-    ((f.c / 2) as u64) + 1
+    (numbers::variable(records::output_number(s, records, i)) as u64) + 1
 }
 
 // Whether output numbers rise. Linear in the records.
@@ -42,27 +50,26 @@ pub fn outputs_rise(s: &[u32], records: usize) -> bool
     let mut low: u64 = 0;
     let mut i: usize = 0;
     while i < records {
-        let f = check_records::read(s, records, i);
-        if !rises(f, low) {
+        if !rises(s, records, i, low) {
             return false;
         }
-        low = next_low(f, low);
+        low = next_low(s, records, i, low);
         i += 1;
     }
     true
 }
 
-// Whether the record is output v of node n. Constant time.
-fn is_output(f: records::Fields, n: u32, v: u32) -> bool
-    ensures { λ x. ⌜ ((r : Record) → fields f ≡ record-image r → x ≡ is-output r n v) ⌝ }
+// Whether record i is output v of node n. Constant time.
+fn defines(s: &[u32], records: usize, i: usize, n: u32, v: u32) -> bool
+    ensures { λ x. ⌜ ((rs : List Record) → Stores (now (s .entry)) records rs → x ≡ defines (getD rs i unknown) n v) ⌝ }
 {
-    if f.kind != records::OUTPUT {
+    if !records::is_output(s, records, i) {
         return false;
     }
-    if f.a != n {
+    if records::output_node(s, records, i) != n {
         return false;
     }
-    f.b == v
+    records::output_value(s, records, i) == v
 }
 
 // Whether output v of node n stands at `from` or later. Linear in the records.
@@ -71,7 +78,7 @@ fn defined_from(s: &[u32], records: usize, from: usize, n: u32, v: u32) -> bool
 {
     let mut i = from;
     while i < records {
-        if is_output(check_records::read(s, records, i), n, v) {
+        if defines(s, records, i, n, v) {
             return true;
         }
         i += 1;
@@ -84,11 +91,12 @@ fn again(s: &[u32], records: usize, i: usize) -> bool
     requires { ⌜ i < records ⌝ }
     ensures { λ x. ⌜ ((rs : List Record) → Stores (now (s .entry)) records rs → x ≡ again-in (getD rs i unknown) (drop (i + 1) rs)) ⌝ }
 {
-    let f = check_records::read(s, records, i);
-    if f.kind != records::OUTPUT {
+    if !records::is_output(s, records, i) {
         return false;
     }
-    defined_from(s, records, i + 1, f.a, f.b)
+    let n = records::output_node(s, records, i);
+    let v = records::output_value(s, records, i);
+    defined_from(s, records, i + 1, n, v)
 }
 
 // Whether no node and value stands twice among the outputs. Quadratic in the records.
@@ -105,31 +113,30 @@ pub fn outputs_distinct(s: &[u32], records: usize) -> bool
     true
 }
 
-// What record i costs: 0 counts entries, 1 adds their nodes' maxima, any other their weights. Constant time.
-fn record_cost(s: &[u32], records: usize, what: u32, i: usize) -> u64
-    ensures { λ x. ⌜ ((rs : List Record) → Stores (now (s .entry)) records rs → x ≡ record-cost rs what (getD rs i unknown)) ⌝ }
+// What record i costs, 0 where it is no waiting entry. Constant time.
+fn record_cost(s: &[u32], records: usize, cost: u32, i: usize) -> u64
+    ensures { λ x. ⌜ ((rs : List Record) → Stores (now (s .entry)) records rs → x ≡ record-cost rs cost (getD rs i unknown)) ⌝ }
 {
-    let f = check_records::read(s, records, i);
-    if f.kind != records::WAITING {
+    if !records::is_waiting(s, records, i) {
         return 0;
     }
-    if what == 0 {
+    if cost == COUNT {
         return 1;
     }
-    if what == 1 {
-        return records::maximum(s, records, f.a) as u64;
+    if cost == MAXIMUM {
+        return records::maximum(s, records, records::entry_node(s, records, i)) as u64;
     }
-    f.b as u64
+    records::entry_weight(s, records, i) as u64
 }
 
 // What the waiting entries leave of a budget; it stops where the budget is overspent. Linear in the records.
-pub fn spent(s: &[u32], records: usize, what: u32, budget: u64) -> Budget
-    ensures { λ x. ⌜ ((rs : List Record) → Stores (now (s .entry)) records rs → x ≡ spent budget (total-cost rs what rs)) ⌝ }
+pub fn spent(s: &[u32], records: usize, cost: u32, budget: u64) -> Budget
+    ensures { λ x. ⌜ ((rs : List Record) → Stores (now (s .entry)) records rs → x ≡ spent budget (total-cost rs cost rs)) ⌝ }
 {
     let mut left = budget;
     let mut i: usize = 0;
     while i < records {
-        let x = record_cost(s, records, what, i);
+        let x = record_cost(s, records, cost, i);
         if left < x {
             return Budget {
                 over: true,

@@ -2,14 +2,11 @@
 ghost use mathlib.Core.Path.{_≡_};
 ghost use mathlib.Core.Bool.{_&&_};
 ghost use mathlib.Core.List.{List};
-ghost use Prim.Native.Nat.{_/_, _<_, max};
+ghost use Prim.Native.Nat.{_≤_, _<_, max};
 ghost use lib.Dec.{eqb};
 ghost use lib.ListN.{getD};
-ghost use Rattle.rules.specs.Records.{leaf, join, Record, unknown, node-of, nodeAt, record-image, word-literal};
-ghost use Rattle.rules.specs.Totalizer.{counts};
-ghost use Rattle.rules.specs.WellFormed.{is-leaf, spares-buckets};
-ghost use Rattle.laws.specs.Records.Places.{place};
-ghost use Rattle.records.specs.Words.{fields};
+ghost use Rattle.rules.specs.Records.{leaf, join, Record, unknown, nodeAt, word-literal};
+ghost use Rattle.rules.specs.WellFormed.{spares-buckets};
 ghost use Rattle.records.specs.Carries.{Stores};
 ghost use Rattle.check_records.specs.Tests.{kind-right, output-right, entry-right, record-right, order-at, place-right, records-right};
 
@@ -25,38 +22,6 @@ pub struct Limits {
     pub low: u64,
     pub fresh: u32,
     pub top: u64,
-}
-
-// The words of record i. Constant time.
-pub fn read(s: &[u32], records: usize, i: usize) -> records::Fields
-    ensures { λ f. ⌜ ((rs : List Record) → Stores (now (s .entry)) records rs → fields f ≡ record-image (getD rs i unknown)) ⌝ }
-{
-    records::Fields {
-        kind: records::field(s, records, i, records::KIND),
-        a: records::field(s, records, i, records::A),
-        b: records::field(s, records, i, records::B),
-        c: records::field(s, records, i, records::C),
-        maximum: records::field(s, records, i, records::MAXIMUM),
-        height: records::field(s, records, i, records::HEIGHT),
-    }
-}
-
-// Whether a node stands at place n. Constant time.
-pub fn is_node(s: &[u32], records: usize, n: u32) -> bool
-    ensures { λ r. ⌜ ((rs : List Record) → Stores (now (s .entry)) records rs → r ≡ place rs n) ⌝ }
-{
-    let kind = records::field(s, records, n as usize, records::KIND);
-    if kind == 0 {
-        return false;
-    }
-    kind < records::OUTPUT
-}
-
-// Whether node n is a leaf. Constant time.
-pub fn is_leaf(s: &[u32], records: usize, n: u32) -> bool
-    ensures { λ r. ⌜ ((rs : List Record) → Stores (now (s .entry)) records rs → r ≡ is-leaf (nodeAt rs n .kind)) ⌝ }
-{
-    records::field(s, records, n as usize, records::KIND) == records::LEAF
 }
 
 // Whether both are 0. Constant time.
@@ -79,16 +44,6 @@ fn larger(x: u32, y: u32) -> u32
     x
 }
 
-// What a right side counts, halved where its word is 1. Constant time.
-fn counted(c: u32, x: u32) -> u32
-    ensures { λ r. ⌜ r ≡ counts (eqb c 1) x ⌝ }
-{
-    if c == 1 {
-        return x / 2;
-    }
-    x
-}
-
 // Whether a leaf is right, by its literal's word. Constant time.
 fn leaf_right(a: u32, m: u32, h: u32) -> bool
     ensures { λ r. ⌜ ((rs : List Record) → r ≡ kind-right rs (leaf (word-literal a)) m h) ⌝ }
@@ -106,48 +61,81 @@ fn leaf_right(a: u32, m: u32, h: u32) -> bool
     x <= rules::MOST_VARIABLE
 }
 
-// Whether a join is right. Constant time.
-fn join_right(s: &[u32], records: usize, f: records::Fields) -> bool
-    ensures { λ x. ⌜ ((rs : List Record) → Stores (now (s .entry)) records rs → x ≡ kind-right rs (join (eqb (f .c) 1) (f .a) (f .b)) (f .maximum) (f .height)) ⌝ }
+// Whether a join is right, by its sides, maximum and height. Constant time.
+fn join_right(
+    s: &[u32],
+    records: usize,
+    half: bool,
+    l: u32,
+    r: u32,
+    maximum: u32,
+    height: u32,
+) -> bool
+    ensures { λ x. ⌜ ((rs : List Record) → Stores (now (s .entry)) records rs → x ≡ kind-right rs (join half l r) maximum height) ⌝ }
 {
-    if !is_node(s, records, f.a) {
+    if !records::is_node(s, records, l) {
         return false;
     }
-    if !is_node(s, records, f.b) {
+    if !records::is_node(s, records, r) {
         return false;
     }
-    if MOST_MAXIMUM < f.maximum {
+    if MOST_MAXIMUM < maximum {
         return false;
     }
-    let x = records::maximum(s, records, f.a) as u64;
-    let y = counted(f.c, records::maximum(s, records, f.b)) as u64;
-    if (f.maximum as u64) != x + y {
+    let x = records::maximum(s, records, l) as u64;
+    let y = records_append::counted(half, records::maximum(s, records, r)) as u64;
+    if (maximum as u64) != x + y {
         return false;
     }
     let z = larger(
-        records::height(s, records, f.a),
-        records::height(s, records, f.b),
+        records::height(s, records, l),
+        records::height(s, records, r),
     ) as u64;
-    (f.height as u64) == z + 1
+    (height as u64) == z + 1
 }
 
-// Whether an output is right. Linear in the tares.
-fn output_right(s: &[u32], records: usize, tares: &[u32], lim: Limits, f: records::Fields) -> bool
-    ensures { λ r. ⌜ ((rs : List Record) → Stores (now (s .entry)) records rs → r ≡ output-right rs (now (tares .entry)) lim (f .a) (f .b) (f .c / 2)) ⌝ }
+// Whether node n is right, as which a place without a node is taken. Constant time.
+fn node_right(s: &[u32], records: usize, n: u32) -> bool
+    ensures { λ x. ⌜ ((rs : List Record) → Stores (now (s .entry)) records rs → x ≡ kind-right rs (nodeAt rs n .kind) (nodeAt rs n .maximum) (nodeAt rs n .height)) ⌝ }
 {
-    if !is_node(s, records, f.a) {
+    let maximum = records::maximum(s, records, n);
+    let height = records::height(s, records, n);
+    if records::is_leaf(s, records, n) {
+        return leaf_right(records::literal(s, records, n), maximum, height);
+    }
+    if !records::is_join(s, records, n) {
+        return blank(maximum, height);
+    }
+    let half = records::halved(s, records, n);
+    let l = records::left(s, records, n);
+    let r = records::right(s, records, n);
+    join_right(s, records, half, l, r, maximum, height)
+}
+
+// Whether output v of node n is right, by its number x. Linear in the tares.
+fn output_right(
+    s: &[u32],
+    records: usize,
+    tares: &[u32],
+    lim: Limits,
+    n: u32,
+    v: u32,
+    x: u32,
+) -> bool
+    ensures { λ r. ⌜ ((rs : List Record) → Stores (now (s .entry)) records rs → r ≡ output-right rs (now (tares .entry)) lim n v x) ⌝ }
+{
+    if !records::is_node(s, records, n) {
         return false;
     }
-    if is_leaf(s, records, f.a) {
+    if records::is_leaf(s, records, n) {
         return false;
     }
-    if f.b < 1 {
+    if v < 1 {
         return false;
     }
-    if records::maximum(s, records, f.a) < f.b {
+    if records::maximum(s, records, n) < v {
         return false;
     }
-    let x = f.c / 2;
     if (x as u64) < lim.low {
         return false;
     }
@@ -157,77 +145,78 @@ fn output_right(s: &[u32], records: usize, tares: &[u32], lim: Limits, f: record
     !check_arrays::among(tares, x)
 }
 
-// Whether a waiting entry is right. Linear in the buckets.
-fn entry_right(s: &[u32], records: usize, buckets: &[u32], lim: Limits, f: records::Fields) -> bool
-    ensures { λ r. ⌜ ((rs : List Record) → Stores (now (s .entry)) records rs → r ≡ entry-right rs (now (buckets .entry)) lim (f .a) (f .b)) ⌝ }
+// Whether node n may wait with weight w. Linear in the buckets.
+fn entry_right(s: &[u32], records: usize, buckets: &[u32], lim: Limits, n: u32, w: u32) -> bool
+    ensures { λ r. ⌜ ((rs : List Record) → Stores (now (s .entry)) records rs → r ≡ entry-right rs (now (buckets .entry)) lim n w) ⌝ }
 {
-    if !is_node(s, records, f.a) {
+    if !records::is_node(s, records, n) {
         return false;
     }
-    if f.b < 1 {
+    if w < 1 {
         return false;
     }
-    if MOST_WEIGHT < f.b {
+    if MOST_WEIGHT < w {
         return false;
     }
-    if lim.top <= (f.b as u64) {
+    if lim.top <= (w as u64) {
         return false;
     }
-    !check_arrays::among(buckets, f.a)
+    !check_arrays::among(buckets, n)
 }
 
-// Whether a record is right, by its words. Linear in the tares and the buckets.
+// Whether the record at place n is right by itself. Linear in the tares and the buckets.
 fn record_right(
     s: &[u32],
     records: usize,
     tares: &[u32],
     buckets: &[u32],
     lim: Limits,
-    f: records::Fields,
+    n: u32,
 ) -> bool
-    ensures { λ x. ⌜ ((rs : List Record) (r : Record) → Stores (now (s .entry)) records rs → fields f ≡ record-image r → x ≡ record-right rs (now (tares .entry)) (now (buckets .entry)) lim r) ⌝ }
+    ensures { λ x. ⌜ ((rs : List Record) → Stores (now (s .entry)) records rs → x ≡ record-right rs (now (tares .entry)) (now (buckets .entry)) lim (getD rs n unknown)) ⌝ }
 {
-    if f.kind == records::LEAF {
-        return leaf_right(f.a, f.maximum, f.height);
+    let i = n as usize;
+    if records::is_output(s, records, i) {
+        let node = records::output_node(s, records, i);
+        let value = records::output_value(s, records, i);
+        let number = numbers::variable(records::output_number(s, records, i));
+        return output_right(s, records, tares, lim, node, value, number);
     }
-    if f.kind == records::JOIN {
-        return join_right(s, records, f);
+    if records::is_waiting(s, records, i) {
+        let node = records::entry_node(s, records, i);
+        let weight = records::entry_weight(s, records, i);
+        return entry_right(s, records, buckets, lim, node, weight);
     }
-    if f.kind == records::OUTPUT {
-        return output_right(s, records, tares, lim, f);
-    }
-    if f.kind == records::WAITING {
-        return entry_right(s, records, buckets, lim, f);
-    }
-    blank(f.maximum, f.height)
+    node_right(s, records, n)
 }
 
-// Whether record i, of this kind, is followed as waiting entries are. Constant time.
-fn order_at(s: &[u32], records: usize, i: usize, f: records::Fields) -> bool
+// Whether record i is followed as waiting entries are. Constant time.
+fn order_at(s: &[u32], records: usize, i: usize) -> bool
     requires { ⌜ i < records ⌝ }
-    ensures { λ x. ⌜ ((rs : List Record) → Stores (now (s .entry)) records rs → fields f ≡ record-image (getD rs i unknown) → x ≡ order-at rs i) ⌝ }
+    ensures { λ x. ⌜ ((rs : List Record) → Stores (now (s .entry)) records rs → x ≡ order-at rs i) ⌝ }
 {
-    if f.kind != records::WAITING {
+    if !records::is_waiting(s, records, i) {
         return true;
     }
     if records - i < 2 {
         return true;
     }
-    records::field(s, records, i + 1, records::KIND) == records::WAITING
+    records::is_waiting(s, records, i + 1)
 }
 
-// Whether record i names no bucket but the one below. Linear in the buckets.
-fn spare_at(buckets: &[u32], i: usize, f: records::Fields) -> bool
-    ensures { λ x. ⌜ ((r : Record) → fields f ≡ record-image r → x ≡ spares-buckets (now (buckets .entry)) i (node-of r .kind)) ⌝ }
+// Whether node n names no bucket but the one below. Linear in the buckets.
+fn spare_at(s: &[u32], records: usize, buckets: &[u32], n: u32) -> bool
+    ensures { λ x. ⌜ ((rs : List Record) → Stores (now (s .entry)) records rs → x ≡ spares-buckets (now (buckets .entry)) n (nodeAt rs n .kind)) ⌝ }
 {
-    if f.kind != records::JOIN {
+    if !records::is_join(s, records, n) {
         return true;
     }
-    if check_arrays::among(buckets, f.a) {
+    if check_arrays::among(buckets, records::left(s, records, n)) {
         return false;
     }
-    if check_arrays::among(buckets, f.b) {
-        return check_arrays::above(buckets, i, f.b);
+    let r = records::right(s, records, n);
+    if check_arrays::among(buckets, r) {
+        return check_arrays::above(buckets, n as usize, r);
     }
     true
 }
@@ -241,21 +230,22 @@ fn place_right(
     lim: Limits,
     i: usize,
 ) -> bool
-    requires { ⌜ i < records ⌝ }
+    requires { ⌜ (i < records) × (records ≤ 4294967296) ⌝ }
     ensures { λ x. ⌜ ((rs : List Record) → Stores (now (s .entry)) records rs → x ≡ place-right rs (now (tares .entry)) (now (buckets .entry)) lim i) ⌝ }
 {
-    let f = read(s, records, i);
-    if !record_right(s, records, tares, buckets, lim, f) {
+    let n = i as u32;
+    if !record_right(s, records, tares, buckets, lim, n) {
         return false;
     }
-    if !order_at(s, records, i, f) {
+    if !order_at(s, records, i) {
         return false;
     }
-    spare_at(buckets, i, f)
+    spare_at(s, records, buckets, n)
 }
 
 // Whether every record is right where it stands. Linear in the records, times the tares and the buckets.
 pub fn records_right(s: &[u32], records: usize, tares: &[u32], buckets: &[u32], lim: Limits) -> bool
+    requires { ⌜ records ≤ 4294967296 ⌝ }
     ensures { λ x. ⌜ ((rs : List Record) → Stores (now (s .entry)) records rs → x ≡ records-right rs (now (tares .entry)) (now (buckets .entry)) lim) ⌝ }
 {
     let mut i: usize = 0;

@@ -170,3 +170,10 @@ unfolding capacity
 marks-room store records e =
     let h : records ≤ min (length store / 8) 4294967296 = leb-true records _ e in
     omega arith
+
+-- and as many have places
+pub marks-few : (store : List ℕ) (records : ℕ) → leb records (capacity store) ≡ true → records ≤ 4294967296
+unfolding capacity
+marks-few store records e =
+    let h : records ≤ min (length store / 8) 4294967296 = leb-true records _ e in
+    omega arith

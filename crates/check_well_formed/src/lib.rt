@@ -12,6 +12,9 @@ ghost use Rattle.rules.specs.WellFormed.{marks-within, tares-within, buckets-wi
 ghost use Rattle.records.specs.Carries.{Stores};
 ghost use Rattle.check_outputs.specs.Steps.{total-cost};
 ghost use Rattle.check_well_formed.specs.Groups.{state-right, numbered, waiting-few, built-numbers, built-right, unbuilt-right, records-hold, Limited};
+use check_outputs::COUNT;
+use check_outputs::MAXIMUM;
+use check_outputs::WEIGHT;
 
 // As many records as words can name.
 const MOST_RECORDS: usize = records::MOST_PLACE + 1;
@@ -38,7 +41,7 @@ fn marks_within(s: rules::State, store: &[u32], clauses: &[i32]) -> bool
     if MOST_RECORDS < s.records {
         return false;
     }
-    if store.len() / records::WORDS < s.records {
+    if records::capacity(store) < s.records {
         return false;
     }
     s.words <= clauses.len()
@@ -101,6 +104,7 @@ fn limits(s: rules::State, store: &[u32]) -> check_records::Limits
 
 // The clauses of records, outputs and numbers. Linear in the records, but for the outputs' nodes and values.
 fn numbered(s: rules::State, store: &[u32], tares: &[u32], buckets: &[u32]) -> bool
+    requires { ⌜ s .records ≤ 4294967296 ⌝ }
     ensures { λ r. ⌜ ((rs : List Record) → Stores (now (store .entry)) (s .records) rs → now (tares .entry) ≡ tares-of s → now (buckets .entry) ≡ buckets-of s → r ≡ numbered s rs) ⌝ }
 {
     let lim = limits(s, store);
@@ -120,18 +124,18 @@ fn numbered(s: rules::State, store: &[u32], tares: &[u32], buckets: &[u32]) -> b
 }
 
 // Whether the waiting entries cost at most n. Linear in the records.
-fn costs_few(store: &[u32], records: usize, what: u32, n: u64) -> bool
-    ensures { λ r. ⌜ ((rs : List Record) → Stores (now (store .entry)) records rs → r ≡ leb (total-cost rs what rs) n) ⌝ }
+fn costs_few(store: &[u32], records: usize, cost: u32, n: u64) -> bool
+    ensures { λ r. ⌜ ((rs : List Record) → Stores (now (store .entry)) records rs → r ≡ leb (total-cost rs cost rs) n) ⌝ }
 {
-    let left = check_outputs::spent(store, records, what, n);
+    let left = check_outputs::spent(store, records, cost, n);
     !left.over
 }
 
 // Whether the waiting entries cost n. Linear in the records.
-fn costs(store: &[u32], records: usize, what: u32, n: u64) -> bool
-    ensures { λ r. ⌜ ((rs : List Record) → Stores (now (store .entry)) records rs → r ≡ eqb (total-cost rs what rs) n) ⌝ }
+fn costs(store: &[u32], records: usize, cost: u32, n: u64) -> bool
+    ensures { λ r. ⌜ ((rs : List Record) → Stores (now (store .entry)) records rs → r ≡ eqb (total-cost rs cost rs) n) ⌝ }
 {
-    let left = check_outputs::spent(store, records, what, n);
+    let left = check_outputs::spent(store, records, cost, n);
     if left.over {
         return false;
     }
@@ -142,17 +146,17 @@ fn costs(store: &[u32], records: usize, what: u32, n: u64) -> bool
 fn waiting_few(store: &[u32], records: usize) -> bool
     ensures { λ r. ⌜ ((rs : List Record) → Stores (now (store .entry)) records rs → r ≡ waiting-few rs) ⌝ }
 {
-    if !costs_few(store, records, 0, MOST_WAITING) {
+    if !costs_few(store, records, COUNT, MOST_WAITING) {
         return false;
     }
-    costs_few(store, records, 1, MOST_WAITING)
+    costs_few(store, records, MAXIMUM, MOST_WAITING)
 }
 
 // Whether as many entries wait as there are inputs, and each input does. Linear in the records, and quadratic in the inputs.
 fn inputs_wait(store: &[u32], records: usize, inputs: u32) -> bool
     ensures { λ r. ⌜ ((rs : List Record) → Stores (now (store .entry)) records rs → waiting-last rs ≡ true → r ≡ (eqb (length (entries rs)) inputs && all (among (map (λ (e : Entry). e .node) (entries rs))) (rising inputs 0))) ⌝ }
 {
-    if !costs(store, records, 0, inputs as u64) {
+    if !costs(store, records, COUNT, inputs as u64) {
         return false;
     }
     if records < (inputs as usize) {
@@ -174,7 +178,7 @@ fn unbuilt_right(s: rules::State, store: &[u32]) -> bool
     if !inputs_wait(store, s.records, s.inputs) {
         return false;
     }
-    costs(store, s.records, 2, s.sum)
+    costs(store, s.records, WEIGHT, s.sum)
 }
 
 // Whether a built divisor times W, 2 to the tares, is at most 2^19. Constant time.
@@ -217,7 +221,7 @@ fn built_right(s: rules::State, store: &[u32], buckets: &[u32]) -> bool
     if !built_numbers(s) {
         return false;
     }
-    let wait = !costs_few(store, s.records, 0, 0);
+    let wait = !costs_few(store, s.records, COUNT, 0);
     if !check_buckets::linked(store, s.records, wait, buckets) {
         return false;
     }
@@ -226,6 +230,7 @@ fn built_right(s: rules::State, store: &[u32], buckets: &[u32]) -> bool
 
 // The clauses of the records. Linear in the records, but for the outputs' nodes and values.
 fn records_hold(s: rules::State, store: &[u32], tares: &[u32], buckets: &[u32]) -> bool
+    requires { ⌜ s .records ≤ 4294967296 ⌝ }
     ensures { λ r. ⌜ ((rs : List Record) → Stores (now (store .entry)) (s .records) rs → now (tares .entry) ≡ tares-of s → now (buckets .entry) ≡ buckets-of s → r ≡ records-hold s rs) ⌝ }
 {
     if !check_inputs::leaves_first(store, s.records, s.inputs) {
@@ -253,8 +258,9 @@ fn front(used: u32, slots: usize) -> usize
     slots
 }
 
-// The clauses of the records, over the used slots of both arrays. Growth as before.
+// The clauses of the records, over the used slots of both arrays. Linear in the records, but for the outputs' nodes and values.
 fn over_slots(s: rules::State, store: &[u32], tares: &[u32], buckets: &[u32]) -> bool
+    requires { ⌜ s .records ≤ 4294967296 ⌝ }
     ensures { λ r. ⌜ ((rs : List Record) → Stores (now (store .entry)) (s .records) rs → now (tares .entry) ≡ s .tares → now (buckets .entry) ≡ s .buckets → r ≡ records-hold s rs) ⌝ }
 {
     let n = front(s.tares_used, tares.len());
@@ -262,8 +268,9 @@ fn over_slots(s: rules::State, store: &[u32], tares: &[u32], buckets: &[u32]) ->
     records_hold(s, store, &tares[..n], &buckets[..m])
 }
 
-// The clauses of the records, over the arrays of the state. Growth as before.
+// The clauses of the records, over the arrays of the state. Linear in the records, but for the outputs' nodes and values.
 fn over_records(s: rules::State, store: &[u32]) -> bool
+    requires { ⌜ s .records ≤ 4294967296 ⌝ }
     ensures { λ r. ⌜ ((rs : List Record) → Stores (now (store .entry)) (s .records) rs → r ≡ records-hold s rs) ⌝ }
 {
     let tares = s.tares;

@@ -229,9 +229,9 @@ fn place(slots: &[u32], used: usize, n: u32) -> usize {
 
 // Whether record i is a node's output with this literal's word. Constant time.
 fn is_output(store: &[u32], records: usize, i: usize, node: u32, w: u32) -> bool {
-    records::field(store, records, i, 0) == 4
-        && records::field(store, records, i, 1) == node
-        && records::field(store, records, i, 3) == w
+    records::is_output(store, records, i)
+        && records::output_node(store, records, i) == node
+        && records::output_number(store, records, i) == w
 }
 
 // The value of a node's output with this literal's word, 0 where there is none. Linear in the records.
@@ -239,7 +239,7 @@ fn value(store: &[u32], records: usize, node: u32, w: u32) -> u32 {
     let mut i: usize = 0;
     while i < records {
         if is_output(store, records, i, node, w) {
-            return records::field(store, records, i, 2);
+            return records::output_value(store, records, i);
         }
         i += 1;
     }

@@ -81,7 +81,7 @@ fn less(x: usize, y: usize) -> usize {
 
 // How many words the used records take, all of the store where there are fewer. Constant time.
 pub fn used_words(s: &[u32], records: usize) -> usize {
-    if s.len() / records::WORDS < records {
+    if records::capacity(s) < records {
         return s.len();
     }
     records::WORDS * records

@@ -3,12 +3,13 @@ use mathlib.Core.Path.{_≡_, refl, sym, ap, ap₂, _∙_}
 use mathlib.Core.Bool.{Bool, true, false, cond}
 use mathlib.Core.List.{List}
 use Prim.Native.Nat.{ℕ}
+use native.Mathlib.Omega.{arith}
 use lib.Dec.{eqb}
-use borrow.Author.Tests.{eqb-true, eqb-false, eq-eqb, ne-eqb}
-use Rattle.rules.specs.Records.{Record, nodeAt, right-link}
-use Rattle.records.specs.Words.{field-at}
+use borrow.Author.Tests.{eq-eqb, ne-eqb}
+use Rattle.rules.specs.Records.{Record, nodeAt, right-link, node-of as record-node}
+use Rattle.records.specs.Words.{field-at, held-at}
 use Rattle.records.specs.Carries.{Stores}
-use Rattle.records.proofs.Read.{maximum-is, right-none, right-some}
+use Rattle.records.proofs.Read.{maximum-is, right-held, held-tells}
 use Rattle.node_structs.specs.Nodes.{node-of, read-node, node-among}
 
 module _ (s : List ℕ) (records n m x : ℕ) (em : m ≡ field-at s records n 4) (ex : x ≡ field-at s records n 0) where
@@ -25,9 +26,7 @@ module _ (s : List ℕ) (records n m x : ℕ) (em : m ≡ field-at s records n 4
 
 -- where the records lie in the words
 pub among : (s : List ℕ) (records : ℕ) (rs : List Record) → Stores s records rs → (n : ℕ) → read-node s records n ≡ node-among rs n
-unfolding read-node node-among
-among s records rs h n = ap₂ node-of (go (eqb (field-at s records n 0) 2) refl) (maximum-is s records rs h n)
-  where
-    go : (b : Bool) → eqb (field-at s records n 0) 2 ≡ b → cond b (field-at s records n 2) 0 ≡ right-link (nodeAt rs n .kind)
-    go true e = right-some s records rs h n (field-at s records n 0) refl (eqb-true (field-at s records n 0) 2 e) (field-at s records n 2) refl
-    go false e = right-none s records rs h n (field-at s records n 0) refl (eqb-false (field-at s records n 0) 2 e)
+unfolding read-node node-among nodeAt held-at
+among s records rs h n =
+    ap₂ node-of (held-tells s records rs h (λ r. right-link (record-node r .kind)) 2 2 right-held (omega arith) n (held-at s records n 2 2) refl)
+    (maximum-is s records rs h n)

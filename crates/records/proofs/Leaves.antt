@@ -7,10 +7,10 @@ use native.Mathlib.Omega.{arith}
 use lib.Dec.{ltb}
 use lib.ListN.{length, take, drop}
 use lib.Seq.{sets, sets-eq}
-use borrow.Author.Tests.{lt-ltb, le-ltb}
+use borrow.Author.Tests.{lt-ltb, le-ltb, eq-eqb, ne-eqb}
 use Rattle.records_words.specs.Words.{word-at, put-word}
 use Rattle.records_words.proofs.Lay.{eight-stores}
-use Rattle.records.specs.Words.{field-at, put-record}
+use Rattle.records.specs.Words.{field-at, held-at, put-record}
 
 module _ (s : List ℕ) (records n k : ℕ) where
   pub field-past : records ≤ n → 0 ≡ field-at s records n k
@@ -29,6 +29,16 @@ module _ (s : List ℕ) (records n k : ℕ) where
     pub field-some : n < length s / 8 → k < 8 → (x : ℕ) → x ≡ word-at s (8 * n + k) → x ≡ field-at s records n k
     unfolding field-at word-at
     field-some h j x e = simp (lt-ltb n records i, lt-ltb n (length s / 8) h, lt-ltb k 8 j) e
+
+-- a word of a record of one kind
+module _ (s : List ℕ) (records n k j x : ℕ) (e : x ≡ field-at s records n 0) where
+  pub held-none : (x ≡ k → ⊥) → 0 ≡ held-at s records n k j
+  unfolding held-at
+  held-none other = ap (λ (b : Bool). cond b (field-at s records n j) 0) (sym (ne-eqb (field-at s records n 0) k (λ q. other (e ∙ q))))
+
+  pub held-some : x ≡ k → (y : ℕ) → y ≡ field-at s records n j → y ≡ held-at s records n k j
+  unfolding held-at
+  held-some is y f = f ∙ ap (λ (b : Bool). cond b (field-at s records n j) 0) (sym (eq-eqb (field-at s records n 0) k (sym e ∙ is)))
 
 pub record-none : (s : List ℕ) (n : ℕ) (ws : List ℕ) → length s / 8 ≤ n → s ≡ put-record s n ws
 unfolding put-record

@@ -1,19 +1,22 @@
 -- What the fields of a record are, where the words store records.
 use mathlib.Core.Path.{_≡_, refl, sym, ap, ap₂, _∙_}
-use mathlib.Core.Bool.{Bool, true, false, cond, false≢true}
+use mathlib.Core.Bool.{Bool, true, false, not, cond, false≢true}
 use mathlib.Core.List.{List}
 use Prim.Native.Nat.{ℕ, _+_, _*_, _/_, _≤_, _<_, max}
 use native.Mathlib.Omega.{arith}
 use lib.Dec.{eqb, ltb}
 use lib.ListN.{length, getD, length-take, List·getD-eq-default, getD-replicate}
 use lib.Seq.{getD-take}
-use borrow.Author.Tests.{ltb-true, ltb-false, lt-ltb, eqb-true, eqb-false, ne-eqb}
+use borrow.Author.Tests.{ltb-true, ltb-false, lt-ltb, eq-eqb, ne-eqb}
 use lib.IntN.{ℤ, pos}
 use Rattle.rules.specs.Records.{Kind, leaf, join, dummy, Output, Entry, literal-word, Record, node, output, waiting, unknown, node-image, record-image, node-of, nodeAt, dummy-node, left-link, right-link, waits}
+use Rattle.rules.specs.WellFormed.{is-node, is-leaf, is-dummy}
 use Rattle.laws.specs.Records.Words.{image-length}
+use Rattle.laws.specs.Records.Places.{place}
 use Rattle.records.specs.declared.Fields.{Fields}
-use Rattle.records.specs.Words.{field-at, fields}
-use Rattle.records.specs.Carries.{Stores, size, is-join, is-halved}
+use Rattle.records.specs.Words.{field-at, held-at, fields}
+use Rattle.records.specs.Readers.{is-join, is-halved, leaf-word, is-output, output-node, output-value, output-number, entry-node, entry-weight}
+use Rattle.records.specs.Carries.{Stores, size}
 use Rattle.records.proofs.Image.{image-word}
 
 -- the fifth word of any record is its maximum, the sixth its height
@@ -50,45 +53,25 @@ size-words r ws e =
     ap₂ max (sym (maximum-word r)) (sym (height-word r)) ∙
     ap (λ (z : List ℕ). max (getD z 4 0) (getD z 5 0)) e
 
--- a join's links and halving by its words
-join-words : (r : Record) → getD (record-image r) 0 0 ≡ 2 →
-    (left-link (node-of r .kind) ≡ getD (record-image r) 1 0) × (right-link (node-of r .kind) ≡ getD (record-image r) 2 0) ×
-    (is-halved (node-of r .kind) ≡ eqb (getD (record-image r) 3 0) 1) × (is-join (node-of r .kind) ≡ true)
-unfolding record-image node-of node-image left-link right-link is-halved is-join
-join-words (node n) = go (n .kind) (n .maximum) (n .height)
-  where
-    go : (k : Kind) (m h : ℕ) → getD (node-image k m h) 0 0 ≡ 2 →
-        (left-link k ≡ getD (node-image k m h) 1 0) × (right-link k ≡ getD (node-image k m h) 2 0) ×
-        (is-halved k ≡ eqb (getD (node-image k m h) 3 0) 1) × (is-join k ≡ true)
-    go (leaf x) m h e = absurd (omega arith)
-    go (join true l r) m h e = (refl, refl, refl, refl)
-    go (join false l r) m h e = (refl, refl, refl, refl)
-    go dummy m h e = absurd (omega arith)
-join-words (output o) = λ e. absurd (omega arith)
-join-words (waiting w) = λ e. absurd (omega arith)
-join-words unknown = λ e. absurd (omega arith)
-
--- any other record has none
-other-words : (r : Record) → (getD (record-image r) 0 0 ≡ 2 → ⊥) →
-    (left-link (node-of r .kind) ≡ 0) × (right-link (node-of r .kind) ≡ 0) × (is-halved (node-of r .kind) ≡ false) × (is-join (node-of r .kind) ≡ false)
-unfolding record-image node-of node-image left-link right-link is-halved is-join dummy-node
-other-words (node n) = go (n .kind) (n .maximum) (n .height)
-  where
-    go : (k : Kind) (m h : ℕ) → (getD (node-image k m h) 0 0 ≡ 2 → ⊥) →
-        (left-link k ≡ 0) × (right-link k ≡ 0) × (is-halved k ≡ false) × (is-join k ≡ false)
-    go (leaf x) m h e = (refl, refl, refl, refl)
-    go (join half l r) m h e = absurd (e refl)
-    go dummy m h e = (refl, refl, refl, refl)
-other-words (output o) = λ e. (refl, refl, refl, refl)
-other-words (waiting w) = λ e. (refl, refl, refl, refl)
-other-words unknown = λ e. (refl, refl, refl, refl)
-
 -- a join is made of its halving and its links
 pub join-parts : (k : Kind) → is-join k ≡ true → k ≡ join (is-halved k) (left-link k) (right-link k)
 unfolding is-join is-halved left-link right-link
 join-parts (join half l r) e = refl
 join-parts (leaf x) e = absurd (false≢true e)
 join-parts dummy e = absurd (false≢true e)
+
+-- a dummy is neither a join nor a leaf
+pub dummy-join : (k : Kind) → is-join k ≡ true → false ≡ is-dummy k
+unfolding is-join is-dummy
+dummy-join (leaf x) e = absurd (false≢true e)
+dummy-join (join half l r) e = refl
+dummy-join dummy e = absurd (false≢true e)
+
+pub dummy-other : (k : Kind) → is-join k ≡ false → not (is-leaf k) ≡ is-dummy k
+unfolding is-join is-dummy is-leaf
+dummy-other (leaf x) e = refl
+dummy-other (join half l r) e = absurd (false≢true (sym e))
+dummy-other dummy e = refl
 
 -- a node's first word is 1, 2 or 3
 pub node-first : (k : Kind) (m h : ℕ) → (1 ≤ getD (node-image k m h) 0 0) × (getD (node-image k m h) 0 0 ≤ 3)
@@ -115,15 +98,105 @@ waiting-words (output o) = λ e. absurd (omega arith)
 waiting-words (waiting w) = λ e. (w, refl, refl, refl)
 waiting-words unknown = λ e. absurd (omega arith)
 
-pub waits-word : (r : Record) → eqb (getD (record-image r) 0 0) 5 ≡ waits r
-unfolding record-image waits
-waits-word (node n) =
-    let x : ℕ = getD (node-image (n .kind) (n .maximum) (n .height)) 0 0 in
-    let low : x ≤ 3 = node-first (n .kind) (n .maximum) (n .height) .1 in
-    ne-eqb x 5 (λ (e : x ≡ 5). omega arith)
-waits-word (output o) = refl
-waits-word (waiting e) = refl
-waits-word unknown = refl
+-- what holds of every kind of record holds of any
+module _ (P : Record → Type 0) (of-leaf : (x : ℤ) (m h : ℕ) → P (node (record { kind = leaf x; maximum = m; height = h })))
+    (of-join : (half : Bool) (l r m h : ℕ) → P (node (record { kind = join half l r; maximum = m; height = h })))
+    (of-dummy : (m h : ℕ) → P (node (record { kind = dummy; maximum = m; height = h })))
+    (of-output : (o : Output) → P (output o)) (of-entry : (e : Entry) → P (waiting e)) (of-none : P unknown) where
+  of-node : (k : Kind) (m h : ℕ) → P (node (record { kind = k; maximum = m; height = h }))
+  of-node (leaf x) m h = of-leaf x m h
+  of-node (join half l r) m h = of-join half l r m h
+  of-node dummy m h = of-dummy m h
+
+  pub by-kind : (r : Record) → P r
+  by-kind (node n) = of-node (n .kind) (n .maximum) (n .height)
+  by-kind (output o) = of-output o
+  by-kind (waiting e) = of-entry e
+  by-kind unknown = of-none
+
+-- f says whether a record's first word is k
+abbrev pub Kinded : (Record → Bool) → ℕ → Type 0
+Kinded f k = (r : Record) → eqb (getD (record-image r) 0 0) k ≡ f r
+
+-- f is word j of the records of kind k, and 0 of all others
+abbrev pub Held : (Record → ℕ) → ℕ → ℕ → Type 0
+Held f k j = (r : Record) → cond (eqb (getD (record-image r) 0 0) k) (getD (record-image r) j 0) 0 ≡ f r
+
+pub leaf-kinded : Kinded (λ r. is-leaf (node-of r .kind)) 1
+unfolding record-image node-image node-of dummy-node is-leaf
+leaf-kinded = by-kind (λ r. eqb (getD (record-image r) 0 0) 1 ≡ is-leaf (node-of r .kind))
+    (λ x m h. refl) (λ half l r m h. refl) (λ m h. refl) (λ o. refl) (λ e. refl) refl
+
+pub join-kinded : Kinded (λ r. is-join (node-of r .kind)) 2
+unfolding record-image node-image node-of dummy-node is-join
+join-kinded = by-kind (λ r. eqb (getD (record-image r) 0 0) 2 ≡ is-join (node-of r .kind))
+    (λ x m h. refl) (λ half l r m h. refl) (λ m h. refl) (λ o. refl) (λ e. refl) refl
+
+pub output-kinded : Kinded is-output 4
+unfolding record-image node-image is-output
+output-kinded = by-kind (λ r. eqb (getD (record-image r) 0 0) 4 ≡ is-output r)
+    (λ x m h. refl) (λ half l r m h. refl) (λ m h. refl) (λ o. refl) (λ e. refl) refl
+
+pub waits-kinded : Kinded waits 5
+unfolding record-image node-image waits
+waits-kinded = by-kind (λ r. eqb (getD (record-image r) 0 0) 5 ≡ waits r)
+    (λ x m h. refl) (λ half l r m h. refl) (λ m h. refl) (λ o. refl) (λ e. refl) refl
+
+pub literal-held : Held (λ r. leaf-word (node-of r .kind)) 1 1
+unfolding record-image node-image node-of dummy-node leaf-word
+literal-held = by-kind (λ r. cond (eqb (getD (record-image r) 0 0) 1) (getD (record-image r) 1 0) 0 ≡ leaf-word (node-of r .kind))
+    (λ x m h. refl) (λ half l r m h. refl) (λ m h. refl) (λ o. refl) (λ e. refl) refl
+
+pub left-held : Held (λ r. left-link (node-of r .kind)) 2 1
+unfolding record-image node-image node-of dummy-node left-link
+left-held = by-kind (λ r. cond (eqb (getD (record-image r) 0 0) 2) (getD (record-image r) 1 0) 0 ≡ left-link (node-of r .kind))
+    (λ x m h. refl) (λ half l r m h. refl) (λ m h. refl) (λ o. refl) (λ e. refl) refl
+
+pub right-held : Held (λ r. right-link (node-of r .kind)) 2 2
+unfolding record-image node-image node-of dummy-node right-link
+right-held = by-kind (λ r. cond (eqb (getD (record-image r) 0 0) 2) (getD (record-image r) 2 0) 0 ≡ right-link (node-of r .kind))
+    (λ x m h. refl) (λ half l r m h. refl) (λ m h. refl) (λ o. refl) (λ e. refl) refl
+
+-- the halving as a word
+halving : Kind → ℕ
+unfolding is-halved
+halving k = cond (is-halved k) 1 0
+
+halving-held : Held (λ r. halving (node-of r .kind)) 2 3
+unfolding record-image node-image node-of dummy-node halving is-halved
+halving-held = by-kind (λ r. cond (eqb (getD (record-image r) 0 0) 2) (getD (record-image r) 3 0) 0 ≡ halving (node-of r .kind))
+    (λ x m h. refl) (λ half l r m h. refl) (λ m h. refl) (λ o. refl) (λ e. refl) refl
+
+pub output-node-held : Held output-node 4 1
+unfolding record-image node-image output-node
+output-node-held = by-kind (λ r. cond (eqb (getD (record-image r) 0 0) 4) (getD (record-image r) 1 0) 0 ≡ output-node r)
+    (λ x m h. refl) (λ half l r m h. refl) (λ m h. refl) (λ o. refl) (λ e. refl) refl
+
+pub output-value-held : Held output-value 4 2
+unfolding record-image node-image output-value
+output-value-held = by-kind (λ r. cond (eqb (getD (record-image r) 0 0) 4) (getD (record-image r) 2 0) 0 ≡ output-value r)
+    (λ x m h. refl) (λ half l r m h. refl) (λ m h. refl) (λ o. refl) (λ e. refl) refl
+
+pub output-number-held : Held output-number 4 3
+unfolding record-image node-image output-number
+output-number-held = by-kind (λ r. cond (eqb (getD (record-image r) 0 0) 4) (getD (record-image r) 3 0) 0 ≡ output-number r)
+    (λ x m h. refl) (λ half l r m h. refl) (λ m h. refl) (λ o. refl) (λ e. refl) refl
+
+pub entry-node-held : Held entry-node 5 1
+unfolding record-image node-image entry-node
+entry-node-held = by-kind (λ r. cond (eqb (getD (record-image r) 0 0) 5) (getD (record-image r) 1 0) 0 ≡ entry-node r)
+    (λ x m h. refl) (λ half l r m h. refl) (λ m h. refl) (λ o. refl) (λ e. refl) refl
+
+pub entry-weight-held : Held entry-weight 5 2
+unfolding record-image node-image entry-weight
+entry-weight-held = by-kind (λ r. cond (eqb (getD (record-image r) 0 0) 5) (getD (record-image r) 2 0) 0 ≡ entry-weight r)
+    (λ x m h. refl) (λ half l r m h. refl) (λ m h. refl) (λ o. refl) (λ e. refl) refl
+
+-- a node's first word is neither 0 nor above 3
+node-word : (r : Record) → cond (eqb (getD (record-image r) 0 0) 0) false (ltb (getD (record-image r) 0 0) 4) ≡ is-node r
+unfolding record-image node-image is-node
+node-word = by-kind (λ r. cond (eqb (getD (record-image r) 0 0) 0) false (ltb (getD (record-image r) 0 0) 4) ≡ is-node r)
+    (λ x m h. refl) (λ half l r m h. refl) (λ m h. refl) (λ o. refl) (λ e. refl) refl
 
 -- a record of kind 4 is the output that its fields say, one of kind 5 the waiting entry
 module _ (r : Record) (f : Fields) (e : fields f ≡ record-image r) where
@@ -217,42 +290,38 @@ module _ (s : List ℕ) (records : ℕ) (rs : List Record) (h : Stores s records
       let w = leaf-words (getD rs n unknown) (sym (field-is n 0 (omega arith)) ∙ e) in
       (w .0, w .1, field-is n 1 (omega arith) ∙ w .2)
 
+  -- a reader of the kind, and one of a word of records of a kind
+  pub kind-tells : (f : Record → Bool) (k : ℕ) → Kinded f k → (n x : ℕ) → x ≡ field-at s records n 0 → eqb x k ≡ f (getD rs n unknown)
+  kind-tells f k p n x e = ap (λ (y : ℕ). eqb y k) (e ∙ field-is n 0 (omega arith)) ∙ p (getD rs n unknown)
+
+  pub held-tells : (f : Record → ℕ) (k j : ℕ) → Held f k j → j < 8 → (n x : ℕ) → x ≡ held-at s records n k j → x ≡ f (getD rs n unknown)
+  unfolding held-at
+  held-tells f k j p i n x e =
+      e ∙ (ap₂ (λ (y z : ℕ). cond (eqb y k) z 0) (field-is n 0 (omega arith)) (field-is n j i) ∙ p (getD rs n unknown))
+
+  pub halved-tells : (n x : ℕ) → x ≡ held-at s records n 2 3 → eqb x 1 ≡ is-halved (nodeAt rs n .kind)
+  unfolding nodeAt halving
+  halved-tells n x e =
+      ap (λ (y : ℕ). eqb y 1) (held-tells (λ r. halving (node-of r .kind)) 2 3 halving-held (omega arith) n x e) ∙
+      back (is-halved (node-of (getD rs n unknown) .kind))
+    where
+      back : (b : Bool) → eqb (cond b 1 0) 1 ≡ b
+      back true = refl
+      back false = refl
+
   module _ (n x : ℕ) (ex : x ≡ field-at s records n 0) where
-    kind-is : x ≡ getD (record-image (getD rs n unknown)) 0 0
-    kind-is = ex ∙ field-is n 0 (omega arith)
+    first : x ≡ getD (record-image (getD rs n unknown)) 0 0
+    first = ex ∙ field-is n 0 (omega arith)
 
-    pub joins-is : eqb x 2 ≡ is-join (nodeAt rs n .kind)
-    unfolding nodeAt
-    joins-is = go (eqb x 2) refl
-      where
-        go : (b : Bool) → eqb x 2 ≡ b → b ≡ is-join (node-of (getD rs n unknown) .kind)
-        go true e = sym (join-words (getD rs n unknown) (sym kind-is ∙ eqb-true x 2 e) .3)
-        go false e = sym (other-words (getD rs n unknown) (λ q. eqb-false x 2 e (kind-is ∙ q)) .3)
+    pub node-none : x ≡ 0 → false ≡ place rs n
+    unfolding place
+    node-none e =
+        ap (λ (b : Bool). cond b false (ltb (getD (record-image (getD rs n unknown)) 0 0) 4)) (sym (eq-eqb _ 0 (sym first ∙ e))) ∙
+        node-word (getD rs n unknown)
 
-    module _ (no : x ≡ 2 → ⊥) where
-      others : (left-link (nodeAt rs n .kind) ≡ 0) × (right-link (nodeAt rs n .kind) ≡ 0) × (is-halved (nodeAt rs n .kind) ≡ false) × (is-join (nodeAt rs n .kind) ≡ false)
-      unfolding nodeAt
-      others = other-words (getD rs n unknown) (λ q. no (kind-is ∙ q))
-
-      pub left-none : 0 ≡ left-link (nodeAt rs n .kind)
-      left-none = sym (others .0)
-
-      pub right-none : 0 ≡ right-link (nodeAt rs n .kind)
-      right-none = sym (others .1)
-
-      pub halved-none : false ≡ is-halved (nodeAt rs n .kind)
-      halved-none = sym (others .2)
-
-    module _ (yes : x ≡ 2) (y : ℕ) where
-      pub left-some : y ≡ field-at s records n 1 → y ≡ left-link (nodeAt rs n .kind)
-      unfolding nodeAt
-      left-some e = e ∙ (field-is n 1 (omega arith) ∙ sym (join-words (getD rs n unknown) (sym kind-is ∙ yes) .0))
-
-      pub right-some : y ≡ field-at s records n 2 → y ≡ right-link (nodeAt rs n .kind)
-      unfolding nodeAt
-      right-some e = e ∙ (field-is n 2 (omega arith) ∙ sym (join-words (getD rs n unknown) (sym kind-is ∙ yes) .1))
-
-      pub halved-some : y ≡ field-at s records n 3 → eqb y 1 ≡ is-halved (nodeAt rs n .kind)
-      unfolding nodeAt
-      halved-some e =
-          ap (λ (z : ℕ). eqb z 1) (e ∙ field-is n 3 (omega arith)) ∙ sym (join-words (getD rs n unknown) (sym kind-is ∙ yes) .2)
+    pub node-some : (x ≡ 0 → ⊥) → ltb x 4 ≡ place rs n
+    unfolding place
+    node-some e =
+        ap (λ (y : ℕ). ltb y 4) first ∙
+        (ap (λ (b : Bool). cond b false (ltb (getD (record-image (getD rs n unknown)) 0 0) 4)) (sym (ne-eqb _ 0 (λ q. e (first ∙ q)))) ∙
+        node-word (getD rs n unknown))

@@ -1,12 +1,12 @@
 -- What lent memory carries: the records and clauses of an arena, as far as there is room. The contracts of the crates above cite
 -- `Steps` and `Makes` over the rules' own functions.
 use mathlib.Core.Path.{_≡_}
-use mathlib.Core.Bool.{Bool, true, false}
+use mathlib.Core.Bool.{true, false}
 use mathlib.Core.List.{List, [], _∷_, _++_}
 use Prim.Native.Nat.{ℕ, _+_, _*_, _≤_, _<_, max}
 use lib.ListN.{length, take, drop}
 use lib.IntN.{ℤ}
-use Rattle.rules.specs.Records.{Kind, leaf, join, dummy, Record, node-of, imageOf, recordsOf}
+use Rattle.rules.specs.Records.{Record, node-of, imageOf, recordsOf}
 use Rattle.rules.specs.Totalizer.{Arena}
 use Rattle.rules.specs.Build.{clause-words}
 use Rattle.records.specs.declared.Marks.{Marks}
@@ -83,18 +83,6 @@ pub record Makes {X : Type 0} (σ τ : St) (x : X) (f : Arena → Arena × X) : 
 pub record Stores (s : List ℕ) (records : ℕ) (rs : List Record) : Type 0 where
   pub image-is : take (8 * records) s ≡ imageOf rs
   pub count-is : records ≡ length rs
-
--- the node is a join
-unfoldable pub is-join : Kind → Bool
-is-join (join half l r) = true
-is-join (leaf x) = false
-is-join dummy = false
-
--- the node is a join whose right side is halved
-unfoldable pub is-halved : Kind → Bool
-is-halved (join half l r) = half
-is-halved (leaf x) = false
-is-halved dummy = false
 
 -- the arena with other records
 unfoldable pub with-records : Arena → List Record → Arena

@@ -1,3 +1,4 @@
--- What lent words carry, and the word-level steps of the leaves.
+-- What lent words carry, what the readers answer, and the word-level steps of the leaves.
 pub mod Words
+pub mod Readers
 pub mod Carries

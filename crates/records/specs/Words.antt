@@ -2,7 +2,7 @@
 use mathlib.Core.Bool.{true, cond}
 use mathlib.Core.List.{List, [], _∷_, _++_}
 use Prim.Native.Nat.{ℕ, _+_, _*_, _/_}
-use lib.Dec.{ltb}
+use lib.Dec.{eqb, ltb}
 use lib.ListN.{length, getD, take, drop}
 use Rattle.records.specs.declared.Marks.{Marks}
 use Rattle.records.specs.declared.Fields.{Fields}
@@ -10,6 +10,11 @@ use Rattle.records.specs.declared.Fields.{Fields}
 -- word k of record n of the first `records`, 0 where there is none
 unfoldable pub field-at : List ℕ → ℕ → ℕ → ℕ → ℕ
 field-at s records n k = cond (ltb n records) (cond (ltb n (length s / 8)) (cond (ltb k 8) (getD s (8 * n + k) 0) 0) 0) 0
+
+-- word j of record n where it is of kind k, else 0
+unfoldable pub held-at : List ℕ → ℕ → ℕ → ℕ → ℕ → ℕ
+unfolding field-at
+held-at s records n k j = cond (eqb (field-at s records n 0) k) (field-at s records n j) 0
 
 -- the words of a record
 abbrev pub fields : Fields → List ℕ

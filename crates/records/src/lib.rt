@@ -2,9 +2,14 @@
 // nothing.
 ghost use mathlib.Core.Path.{_≡_};
 ghost use mathlib.Core.List.{List};
-ghost use Rattle.rules.specs.Records.{Record, nodeAt, left-link, right-link};
-ghost use Rattle.records.specs.Words.{field-at, fields, put-record, full-of};
-ghost use Rattle.records.specs.Carries.{Stores, is-join, is-halved};
+ghost use Prim.Native.Nat.{_/_};
+ghost use lib.ListN.{length, getD};
+ghost use Rattle.rules.specs.Records.{Record, unknown, nodeAt, left-link, right-link, waits};
+ghost use Rattle.rules.specs.WellFormed.{is-leaf, is-dummy};
+ghost use Rattle.laws.specs.Records.Places.{place};
+ghost use Rattle.records.specs.Words.{field-at, held-at, fields, put-record, full-of};
+ghost use Rattle.records.specs.Readers.{is-join, is-halved, leaf-word, is-output, output-node, output-value, output-number, entry-node, entry-weight};
+ghost use Rattle.records.specs.Carries.{Stores};
 
 // The words of a record.
 pub const WORDS: usize = 8;
@@ -98,6 +103,13 @@ pub struct Fields {
     pub height: u32,
 }
 
+// How many whole records the words have room for. Constant time.
+pub fn capacity(s: &[u32]) -> usize
+    ensures { λ r. ⌜ r ≡ length (now (s .entry)) / 8 ⌝ }
+{
+    s.len() / WORDS
+}
+
 // Word k of record n of the first `records`, 0 where there is none. Constant time.
 pub fn field(s: &[u32], records: usize, n: usize, k: usize) -> u32
     ensures { λ r. ⌜ r ≡ field-at (now (s .entry)) records n k ⌝ }
@@ -114,41 +126,77 @@ pub fn field(s: &[u32], records: usize, n: usize, k: usize) -> u32
     records_words::word(s, WORDS * n + k)
 }
 
-// Whether node n of the first `records` is a join. Constant time.
-pub fn joins(s: &[u32], records: usize, n: u32) -> bool
+// Word j of record n where it is of this kind, else 0.
+fn held(s: &[u32], records: usize, n: usize, kind: u32, j: usize) -> u32
+    ensures { λ r. ⌜ r ≡ held-at (now (s .entry)) records n kind j ⌝ }
+{
+    if field(s, records, n, KIND) != kind {
+        return 0;
+    }
+    field(s, records, n, j)
+}
+
+// Whether a node stands at place n. Constant time.
+pub fn is_node(s: &[u32], records: usize, n: u32) -> bool
+    ensures { λ r. ⌜ ((rs : List Record) → Stores (now (s .entry)) records rs → r ≡ place rs n) ⌝ }
+{
+    let kind = field(s, records, n as usize, KIND);
+    if kind == 0 {
+        return false;
+    }
+    kind < OUTPUT
+}
+
+// Whether node n is a leaf. Constant time.
+pub fn is_leaf(s: &[u32], records: usize, n: u32) -> bool
+    ensures { λ r. ⌜ ((rs : List Record) → Stores (now (s .entry)) records rs → r ≡ is-leaf (nodeAt rs n .kind)) ⌝ }
+{
+    field(s, records, n as usize, KIND) == LEAF
+}
+
+// Whether node n is a join. Constant time.
+pub fn is_join(s: &[u32], records: usize, n: u32) -> bool
     ensures { λ r. ⌜ ((rs : List Record) → Stores (now (s .entry)) records rs → r ≡ is-join (nodeAt rs n .kind)) ⌝ }
 {
     field(s, records, n as usize, KIND) == JOIN
+}
+
+// Whether node n is a dummy, as which a place without a node is taken. Constant time.
+pub fn is_dummy(s: &[u32], records: usize, n: u32) -> bool
+    ensures { λ r. ⌜ ((rs : List Record) → Stores (now (s .entry)) records rs → r ≡ is-dummy (nodeAt rs n .kind)) ⌝ }
+{
+    if is_join(s, records, n) {
+        return false;
+    }
+    !is_leaf(s, records, n)
+}
+
+// The word of leaf n's literal, 0 where it is no leaf. Constant time.
+pub fn literal(s: &[u32], records: usize, n: u32) -> u32
+    ensures { λ r. ⌜ ((rs : List Record) → Stores (now (s .entry)) records rs → r ≡ leaf-word (nodeAt rs n .kind)) ⌝ }
+{
+    held(s, records, n as usize, LEAF, LITERAL)
 }
 
 // Whether node n is a join whose right side is halved. Constant time.
 pub fn halved(s: &[u32], records: usize, n: u32) -> bool
     ensures { λ r. ⌜ ((rs : List Record) → Stores (now (s .entry)) records rs → r ≡ is-halved (nodeAt rs n .kind)) ⌝ }
 {
-    if field(s, records, n as usize, KIND) != JOIN {
-        return false;
-    }
-    field(s, records, n as usize, HALVED) == 1
+    held(s, records, n as usize, JOIN, HALVED) == 1
 }
 
-// The left link of node n, 0 where it is no join. Constant time.
+// The left side of join n, 0 where it is none. Constant time.
 pub fn left(s: &[u32], records: usize, n: u32) -> u32
     ensures { λ r. ⌜ ((rs : List Record) → Stores (now (s .entry)) records rs → r ≡ left-link (nodeAt rs n .kind)) ⌝ }
 {
-    if field(s, records, n as usize, KIND) != JOIN {
-        return 0;
-    }
-    field(s, records, n as usize, LEFT)
+    held(s, records, n as usize, JOIN, LEFT)
 }
 
-// The right link of node n, 0 where it is no join. Constant time.
+// The right side of join n, 0 where it is none. Constant time.
 pub fn right(s: &[u32], records: usize, n: u32) -> u32
     ensures { λ r. ⌜ ((rs : List Record) → Stores (now (s .entry)) records rs → r ≡ right-link (nodeAt rs n .kind)) ⌝ }
 {
-    if field(s, records, n as usize, KIND) != JOIN {
-        return 0;
-    }
-    field(s, records, n as usize, RIGHT)
+    held(s, records, n as usize, JOIN, RIGHT)
 }
 
 // The maximum of node n, 0 where there is no node. Constant time.
@@ -163,6 +211,55 @@ pub fn height(s: &[u32], records: usize, n: u32) -> u32
     ensures { λ r. ⌜ ((rs : List Record) → Stores (now (s .entry)) records rs → r ≡ nodeAt rs n .height) ⌝ }
 {
     field(s, records, n as usize, HEIGHT)
+}
+
+// Whether record i is an output. Constant time.
+pub fn is_output(s: &[u32], records: usize, i: usize) -> bool
+    ensures { λ r. ⌜ ((rs : List Record) → Stores (now (s .entry)) records rs → r ≡ is-output (getD rs i unknown)) ⌝ }
+{
+    field(s, records, i, KIND) == OUTPUT
+}
+
+// The node of output i, 0 where it is none. Constant time.
+pub fn output_node(s: &[u32], records: usize, i: usize) -> u32
+    ensures { λ r. ⌜ ((rs : List Record) → Stores (now (s .entry)) records rs → r ≡ output-node (getD rs i unknown)) ⌝ }
+{
+    held(s, records, i, OUTPUT, NODE)
+}
+
+// The value of output i, 0 where it is none. Constant time.
+pub fn output_value(s: &[u32], records: usize, i: usize) -> u32
+    ensures { λ r. ⌜ ((rs : List Record) → Stores (now (s .entry)) records rs → r ≡ output-value (getD rs i unknown)) ⌝ }
+{
+    held(s, records, i, OUTPUT, VALUE)
+}
+
+// The number of output i as a literal's word, 0 where it is none. Constant time.
+pub fn output_number(s: &[u32], records: usize, i: usize) -> u32
+    ensures { λ r. ⌜ ((rs : List Record) → Stores (now (s .entry)) records rs → r ≡ output-number (getD rs i unknown)) ⌝ }
+{
+    held(s, records, i, OUTPUT, NUMBER)
+}
+
+// Whether record i is a waiting entry. Constant time.
+pub fn is_waiting(s: &[u32], records: usize, i: usize) -> bool
+    ensures { λ r. ⌜ ((rs : List Record) → Stores (now (s .entry)) records rs → r ≡ waits (getD rs i unknown)) ⌝ }
+{
+    field(s, records, i, KIND) == WAITING
+}
+
+// The node of waiting entry i, 0 where it is none. Constant time.
+pub fn entry_node(s: &[u32], records: usize, i: usize) -> u32
+    ensures { λ r. ⌜ ((rs : List Record) → Stores (now (s .entry)) records rs → r ≡ entry-node (getD rs i unknown)) ⌝ }
+{
+    held(s, records, i, WAITING, NODE)
+}
+
+// The weight of waiting entry i, 0 where it is none. Constant time.
+pub fn entry_weight(s: &[u32], records: usize, i: usize) -> u32
+    ensures { λ r. ⌜ ((rs : List Record) → Stores (now (s .entry)) records rs → r ≡ entry-weight (getD rs i unknown)) ⌝ }
+{
+    held(s, records, i, WAITING, WEIGHT)
 }
 
 // The eight words of record n; nothing past the last whole record. Constant time.

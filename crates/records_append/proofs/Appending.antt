@@ -6,14 +6,14 @@ use Prim.Native.Nat.{ℕ, suc, _+_, _*_, _/_, _≤_, _<_, max}
 use native.Mathlib.Omega.{arith}
 use lib.ListN.{length, take, length-append}
 use lib.IntN.{ℤ}
-use Rattle.rules.specs.Records.{join, Node, Record, node, output, waiting, node-of, node-image, record-image, literal-word, leaf-node, dummy-node}
+use Rattle.rules.specs.Records.{join, Node, Record, node, output, waiting, node-of, nodeAt, node-image, record-image, literal-word, leaf-node, dummy-node}
 use Rattle.rules.specs.Totalizer.{Arena, counts, joining, add, take-number}
 use Rattle.records.specs.declared.Marks.{Marks}
 use Rattle.records.specs.declared.Fields.{Fields}
-use Rattle.records.specs.Words.{field-at, fields, put-record, full-of}
+use Rattle.records.specs.Words.{fields, put-record, full-of}
 use Rattle.records.specs.Carries.{St, st, storeOf, marksOf, written, size, peak, Fits, Holds, Carries, Steps, Makes, Stores, on-records, with-records, with-record, placed}
 use Rattle.records.proofs.Grow.{Grows, grows-trans, peak-append, records-more, record-grows}
-use Rattle.records.proofs.Read.{size-words, maximum-is, height-is}
+use Rattle.records.proofs.Read.{size-words}
 use Rattle.records.proofs.Step.{stop, going, filled, done, carried, held-stores, makes-steps, makes-same, makes-full}
 use Rattle.records.proofs.Entry.{appended, kept-below}
 use Rattle.records_append.specs.Fresh.{with-numbers}
@@ -145,20 +145,22 @@ module _ (s : List ℕ) (c : List ℤ) (m : Marks) (half : Bool) (l r : ℕ) whe
       makes-full (st s c m) (st s c m) x (on-records (λ rs. add rs (joining rs half l r))) k
       (stop (st s c m) (λ t. on-records (λ rs. add rs (joining rs half l r)) t .0) (join-grows half l r) k)
 
-  -- the fields that the rule of joining reads
+  -- the maxima and heights that the rule of joining reads
   module _ (k : m .full ≡ false) (lm rm rc lh rh top high : ℕ)
-      (elm : lm ≡ field-at s (m .records) l 4) (erm : rm ≡ field-at s (m .records) r 4) (erc : rc ≡ counts half rm) (etop : top ≡ lm + rc)
-      (elh : lh ≡ field-at s (m .records) l 5) (erh : rh ≡ field-at s (m .records) r 5) (ehigh : high ≡ suc (max lh rh)) where
+      (elm : (rs : List Record) → Stores s (m .records) rs → lm ≡ nodeAt rs l .maximum)
+      (erm : (rs : List Record) → Stores s (m .records) rs → rm ≡ nodeAt rs r .maximum) (erc : rc ≡ counts half rm) (etop : top ≡ lm + rc)
+      (elh : (rs : List Record) → Stores s (m .records) rs → lh ≡ nodeAt rs l .height)
+      (erh : (rs : List Record) → Stores s (m .records) rs → rh ≡ nodeAt rs r .height) (ehigh : high ≡ suc (max lh rh)) where
     module _ (rs : List Record) (h : Stores s (m .records) rs) where
       top-is : top ≡ joining rs half l r .maximum
       unfolding joining
       top-is =
-          etop ∙ ap₂ _+_ (elm ∙ maximum-is s (m .records) rs h l) (erc ∙ ap (counts half) (erm ∙ maximum-is s (m .records) rs h r))
+          etop ∙ ap₂ _+_ (elm rs h) (erc ∙ ap (counts half) (erm rs h))
 
       high-is : high ≡ joining rs half l r .height
       unfolding joining
       high-is =
-          ehigh ∙ ap₂ (λ (x y : ℕ). suc (max x y)) (elh ∙ height-is s (m .records) rs h l) (erh ∙ height-is s (m .records) rs h r)
+          ehigh ∙ ap₂ (λ (x y : ℕ). suc (max x y)) (elh rs h) (erh rs h)
 
     over-size : (t : Arena) → Stores s (m .records) (t .records) → 4294967295 < max top high → peak (with-record (node (joining (t .records) half l r)) t .records) < 4294967296 → ⊥
     unfolding size node-of

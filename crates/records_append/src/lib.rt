@@ -29,7 +29,7 @@ pub fn append(s: &mut [u32], m: Marks, x: Fields) -> Made
         return Made { node: 0, marks: m };
     }
     let n = m.records;
-    if s.len() / records::WORDS <= n {
+    if records::capacity(s) <= n {
         return Made {
             node: 0,
             marks: records::full(m),
@@ -134,12 +134,9 @@ pub fn join(s: &mut [u32], m: Marks, half: bool, l: u32, r: u32) -> Made
         return Made { node: 0, marks: m };
     }
     let n = m.records;
-    let right = counted(half, records::field(s, n, r as usize, records::MAXIMUM));
-    let maximum = sum(records::field(s, n, l as usize, records::MAXIMUM), right);
-    let height = above(
-        records::field(s, n, l as usize, records::HEIGHT),
-        records::field(s, n, r as usize, records::HEIGHT),
-    );
+    let right = counted(half, records::maximum(s, n, r));
+    let maximum = sum(records::maximum(s, n, l), right);
+    let height = above(records::height(s, n, l), records::height(s, n, r));
     if records::MOST_WORD < maximum {
         return Made {
             node: 0,

@@ -4,34 +4,16 @@ use mathlib.Core.Bool.{Bool, true, false, _||_}
 use mathlib.Core.List.{List, [], _∷_}
 use Prim.Native.Nat.{ℕ, suc, _+_, _≤_, _<_, max}
 use native.Mathlib.Omega.{arith}
-use lib.Dec.{eqb}
 use lib.ListN.{length, getD, drop, drop-of-length-le}
 use lib.Seq.{drop-cons}
-use Rattle.rules.specs.Records.{Record, node, output, waiting, unknown, record-image, waits, entries}
+use Rattle.rules.specs.Records.{Record, node, output, waiting, unknown, waits, entries}
 use Rattle.rules.specs.Build.{largest, some-wait}
-use Rattle.records.specs.Words.{field-at}
+use Rattle.records.specs.Readers.{entry-weight}
 use Rattle.records.specs.Carries.{Stores}
-use Rattle.records.proofs.Read.{field-is, node-first, waits-word}
-use Rattle.records_waiting.specs.Weight.{weight-of}
-
--- its weight by its words
-weight-word : (r : Record) → getD (record-image r) 0 0 ≡ 5 → getD (record-image r) 2 0 ≡ weight-of r
-unfolding record-image weight-of
-weight-word (node n) e = absurd (omega (arith, node-first (n .kind) (n .maximum) (n .height)))
-weight-word (output o) e = absurd (omega arith)
-weight-word (waiting w) e = refl
-weight-word unknown e = absurd (omega arith)
-
-no-weight-word : (r : Record) → (getD (record-image r) 0 0 ≡ 5 → ⊥) → 0 ≡ weight-of r
-unfolding record-image weight-of
-no-weight-word (node n) e = refl
-no-weight-word (output o) e = refl
-no-weight-word (waiting w) e = absurd (e refl)
-no-weight-word unknown e = refl
 
 -- the first record, then the rest
-largest-first : (r : Record) (rs : List Record) → largest (entries (r ∷ rs)) ≡ max (weight-of r) (largest (entries rs))
-unfolding largest entries weight-of
+largest-first : (r : Record) (rs : List Record) → largest (entries (r ∷ rs)) ≡ max (entry-weight r) (largest (entries rs))
+unfolding largest entries entry-weight
 largest-first (node n) rs = omega arith
 largest-first (output o) rs = omega arith
 largest-first (waiting e) rs = refl
@@ -46,17 +28,6 @@ some-first unknown rs = refl
 
 -- words that store records, and where the walk stands
 module _ (s : List ℕ) (records : ℕ) (rs : List Record) (h : Stores s records rs) (i : ℕ) where
-  pub waits-here : (x : ℕ) → x ≡ field-at s records i 0 → eqb x 5 ≡ waits (getD rs i unknown)
-  waits-here x e = ap (λ (w : ℕ). eqb w 5) (e ∙ field-is s records rs h i 0 (omega arith)) ∙ waits-word (getD rs i unknown)
-
-  pub weight-here : (x y : ℕ) → x ≡ field-at s records i 0 → x ≡ 5 → y ≡ field-at s records i 2 → y ≡ weight-of (getD rs i unknown)
-  weight-here x y e t f =
-      f ∙ (field-is s records rs h i 2 (omega arith) ∙
-      weight-word (getD rs i unknown) (sym (field-is s records rs h i 0 (omega arith)) ∙ (sym e ∙ t)))
-
-  pub no-weight-here : (x : ℕ) → x ≡ field-at s records i 0 → (x ≡ 5 → ⊥) → 0 ≡ weight-of (getD rs i unknown)
-  no-weight-here x e t = no-weight-word (getD rs i unknown) (λ q. t (e ∙ (field-is s records rs h i 0 (omega arith) ∙ q)))
-
   from : i < records → drop i rs ≡ getD rs i unknown ∷ drop (i + 1) rs
   from k =
       let up : suc i ≡ i + 1 = omega arith in
@@ -70,10 +41,10 @@ module _ (s : List ℕ) (records : ℕ) (rs : List Record) (h : Stores s records
       drop-of-length-le rs p
 
   -- the larger of what was seen and what is left
-  pub largest-on : (m w x : ℕ) → i < records → w ≡ weight-of (getD rs i unknown) → x ≡ max m w →
+  pub largest-on : (m w x : ℕ) → i < records → w ≡ entry-weight (getD rs i unknown) → x ≡ max m w →
       max m (largest (entries (drop i rs))) ≡ largest (entries rs) → max x (largest (entries (drop (i + 1) rs))) ≡ largest (entries rs)
   largest-on m w x k e f p =
-      let here : largest (entries (drop i rs)) ≡ max (weight-of (getD rs i unknown)) (largest (entries (drop (i + 1) rs)))
+      let here : largest (entries (drop i rs)) ≡ max (entry-weight (getD rs i unknown)) (largest (entries (drop (i + 1) rs)))
       = ap (λ (z : List Record). largest (entries z)) (from k) ∙ largest-first (getD rs i unknown) (drop (i + 1) rs) in
       omega arith
 

@@ -1,3 +1,2 @@
--- The weight of a record, and what is asked of the words.
-pub mod Weight
+-- What is asked of the words.
 pub mod Read

@@ -12,7 +12,7 @@ ghost use Rattle.rules.specs.Refusals.{lists-differ, literal-unlawful, weight-u
 ghost use Rattle.rules.specs.Start.{start-no-room, start-refusal};
 ghost use Rattle.start_lists.specs.Literals.{words};
 
-// 1. Constant time.
+// Refusal 1: the lists differ in length, or are too long. Constant time.
 fn lists_differ(lits: &[i32], weights: &[u64]) -> bool
     ensures { λ r. ⌜ r ≡ lists-differ (now (lits .entry)) (now (weights .entry)) ⌝ }
 {
@@ -22,7 +22,7 @@ fn lists_differ(lits: &[i32], weights: &[u64]) -> bool
     rules::MOST_INPUTS < lits.len()
 }
 
-// 2. Linear.
+// Refusal 2: a number is no literal. Linear.
 fn literal_unlawful(lits: &[i32]) -> bool
     ensures { λ r. ⌜ r ≡ literal-unlawful (now (lits .entry)) ⌝ }
 {
@@ -50,7 +50,7 @@ fn stands(lits: &[i32], from: usize, w: u32) -> bool
     false
 }
 
-// 3, where no literal is unlawful. Quadratic, over at most 256.
+// Refusal 3, where every number is a literal: one stands twice. Quadratic, over at most 256.
 fn literal_twice(lits: &[i32]) -> bool
     ensures { λ r. ⌜ r ≡ not (distinct (words (now (lits .entry)))) ⌝ }
 {
@@ -64,7 +64,7 @@ fn literal_twice(lits: &[i32]) -> bool
     false
 }
 
-// 4. Linear.
+// Refusal 4: a weight is 0 or too large. Linear.
 fn weight_unlawful(weights: &[u64]) -> bool
     ensures { λ r. ⌜ r ≡ weight-unlawful (now (weights .entry)) ⌝ }
 {
@@ -95,7 +95,7 @@ fn reaches(lits: &[i32], first: u32) -> bool
     false
 }
 
-// 5, where no literal is unlawful. Linear.
+// Refusal 5, where every number is a literal: the first fresh number is none, or not above each variable. Linear.
 fn fresh_unlawful(lits: &[i32], first: u32) -> bool
     ensures { λ r. ⌜ (all lawful (now (lits .entry)) ≡ true → r ≡ fresh-unlawful (now (lits .entry)) first) ⌝ }
 {
@@ -108,12 +108,12 @@ fn fresh_unlawful(lits: &[i32], first: u32) -> bool
     reaches(lits, first)
 }
 
-// 7: the capacity is below twice the inputs. Constant time.
+// Refusal 7: the capacity is below twice the inputs. Constant time.
 fn no_room(lits: &[i32], store: &[u32]) -> bool
     requires { ⌜ length (now lits) ≤ 256 ⌝ }
     ensures { λ r. ⌜ r ≡ start-no-room (now (lits .entry)) (now (store .entry)) ⌝ }
 {
-    store.len() / 8 < 2 * lits.len()
+    records::capacity(store) < 2 * lits.len()
 }
 
 // The first refusal of a start, 0 where there is none. Linear in the lists but for 3, which is quadratic over at most 256.

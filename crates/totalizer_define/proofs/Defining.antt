@@ -11,12 +11,13 @@ use Rattle.rules.specs.Records.{Kind, leaf, join, dummy, Output, Record, nodeAt
 use Rattle.rules.specs.Totalizer.{Arena, counts, asks, number-of, pairs-from, pairs, write, take-number, Define, ask, ask-pair, define-join, define-kind, define, define-output}
 use Rattle.rules.specs.Refinement.{further-pairs, extend}
 use Rattle.records.specs.declared.Marks.{Marks}
-use Rattle.records.specs.Carries.{St, st, marksOf, Steps, Stores, is-join, is-halved}
+use Rattle.records.specs.Readers.{is-join, is-halved}
+use Rattle.records.specs.Carries.{St, st, marksOf, Steps, Stores}
 use Rattle.records.proofs.Read.{join-parts}
 use Rattle.records.proofs.Step.{steps-none, steps-then, steps-same, stop, held, Rest, rest-turn}
 use Rattle.totalizer_clauses.specs.Spread.{Spread}
 use Rattle.totalizer_define.proofs.Growth.{define-grows, output-grows, extend-grows}
-use Rattle.totalizer_clauses.proofs.Pairs.{span-fewer, spread-pairs}
+use Rattle.totalizer_clauses.proofs.PairWalk.{span-fewer, spread-pairs}
 use Rattle.totalizer_define.proofs.Pairs.{further, pairs-turn, rising-turn}
 
 -- A connection --------------------------------------------------------------------------------------------------------------

@@ -23,7 +23,7 @@ fn define_by(s: &mut [u32], c: &mut [i32], m: Marks, node: u32, v: u32, height: 
         return m;
     }
     let n = m.records;
-    if !records::joins(s, n, node) {
+    if !records::is_join(s, n, node) {
         return m;
     }
     if totalizer_find::find(s, n, node, v) != 0 {

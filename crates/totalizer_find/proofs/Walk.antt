@@ -1,6 +1,6 @@
 -- A walk from the first record on finds the first output of a node and value.
 use mathlib.Core.Path.{_≡_, refl, sym, ap, _∙_}
-use mathlib.Core.Bool.{Bool, true, false, cond, _&&_}
+use mathlib.Core.Bool.{Bool, true, false, cond, _&&_, false≢true}
 use mathlib.Core.List.{List, [], _∷_}
 use Prim.Native.Nat.{ℕ, zero, suc, _+_, _<_, _≤_}
 use native.Mathlib.Omega.{arith}
@@ -10,10 +10,12 @@ use lib.Seq.{drop-cons}
 use lib.IntN.{ℤ, pos, negℤ}
 use borrow.Author.Tests.{eq-eqb, ne-eqb, eqb-true, eqb-false}
 use Rattle.rules.specs.Records.{Kind, leaf, join, dummy, Record, node, output, waiting, unknown, node-of, nodeAt, node-image, record-image, literal-word, word-literal, outputs}
+use Rattle.rules.specs.WellFormed.{is-leaf}
 use Rattle.rules.specs.Totalizer.{number-in, number-of, literal-of, side}
 use Rattle.laws.specs.Records.Words.{literal-word-literal, word-not-one}
 use Rattle.numbers.proofs.Literals.{word-literal-word}
 use Rattle.records.specs.Words.{field-at}
+use Rattle.records.specs.Readers.{leaf-word}
 use Rattle.records_clauses.specs.Clauses.{side-of}
 use Rattle.records.specs.Carries.{Stores}
 use Rattle.records.proofs.Read.{field-is}
@@ -81,31 +83,6 @@ hit-number (output o) n v h = refl
 hit-number (waiting e) n v h = let z : _≡_ {A = ℕ} 0 1 = cc in absurd (omega arith)
 hit-number unknown n v h = let z : _≡_ {A = ℕ} 0 1 = cc in absurd (omega arith)
 
--- the literal of a node by its words
-leaf-word : (r : Record) (w : ℕ) → getD (record-image r) 0 0 ≡ 1 → getD (record-image r) 1 0 ≡ literal-word (literal-of (node-of r .kind) w)
-unfolding record-image node-of literal-of node-image
-leaf-word (node m) w = go (m .kind) (m .maximum) (m .height)
-  where
-    go : (k : Kind) (x h : ℕ) → getD (node-image k x h) 0 0 ≡ 1 → getD (node-image k x h) 1 0 ≡ literal-word (literal-of k w)
-    go (leaf x) y h e = refl
-    go (join half l r) y h e = absurd (omega arith)
-    go dummy y h e = absurd (omega arith)
-leaf-word (output o) w = λ e. absurd (omega arith)
-leaf-word (waiting e) w = λ e. absurd (omega arith)
-leaf-word unknown w = λ e. absurd (omega arith)
-
-no-leaf-word : (r : Record) (w : ℕ) → (getD (record-image r) 0 0 ≡ 1 → ⊥) → literal-of (node-of r .kind) w ≡ pos w
-unfolding record-image node-of literal-of node-image
-no-leaf-word (node m) w = go (m .kind) (m .maximum) (m .height)
-  where
-    go : (k : Kind) (x h : ℕ) → (getD (node-image k x h) 0 0 ≡ 1 → ⊥) → literal-of k w ≡ pos w
-    go (leaf x) y h e = absurd (e refl)
-    go (join half l r) y h e = refl
-    go dummy y h e = refl
-no-leaf-word (output o) w = λ e. refl
-no-leaf-word (waiting e) w = λ e. refl
-no-leaf-word unknown w = λ e. refl
-
 -- words that store records, and where the walk stands
 module _ (s : List ℕ) (records : ℕ) (rs : List Record) (h : Stores s records rs) (n v : ℕ) where
   hit-is : (i : ℕ) → hit-at s records i n v ≡ hits (getD rs i unknown) n v
@@ -145,19 +122,25 @@ module _ (s : List ℕ) (records : ℕ) (rs : List Record) (h : Stores s records
       let past : length rs ≤ i = omega arith in
       ap (λ (w : ℕ). literal-word (pos w)) (sym (ap (λ (z : List Record). number-of z n v) (drop-of-length-le rs past)) ∙ p)
 
-  pub literal-leaf : (x y : ℕ) → x ≡ field-at s records n 0 → x ≡ 1 → y ≡ field-at s records n 1 →
-      y ≡ literal-word (literal-of (nodeAt rs n .kind) (number-of rs n v))
-  unfolding nodeAt
-  literal-leaf x y ex e ey =
-      ey ∙ (field-is s records rs h n 1 (omega arith) ∙
-      leaf-word (getD rs n unknown) (number-of rs n v) (sym (field-is s records rs h n 0 (omega arith)) ∙ (sym ex ∙ e)))
+-- a leaf's word is its literal's, any other node's the number found
+module _ (k : Kind) (n x : ℕ) where
+  pub literal-leaf : is-leaf k ≡ true → x ≡ leaf-word k → x ≡ literal-word (literal-of k n)
+  unfolding is-leaf leaf-word literal-of
+  literal-leaf is ex = ex ∙ go k is
+    where
+      go : (k : Kind) → is-leaf k ≡ true → leaf-word k ≡ literal-word (literal-of k n)
+      go (leaf y) e = refl
+      go (join half l r) e = absurd (false≢true e)
+      go dummy e = absurd (false≢true e)
 
-  pub literal-found : (x y : ℕ) → x ≡ field-at s records n 0 → (x ≡ 1 → ⊥) → y ≡ literal-word (pos (number-of rs n v)) →
-      y ≡ literal-word (literal-of (nodeAt rs n .kind) (number-of rs n v))
-  unfolding nodeAt
-  literal-found x y ex e ey =
-      ey ∙ ap literal-word
-      (sym (no-leaf-word (getD rs n unknown) (number-of rs n v) (λ q. e (ex ∙ (field-is s records rs h n 0 (omega arith) ∙ q)))))
+  pub literal-found : is-leaf k ≡ false → x ≡ literal-word (pos n) → x ≡ literal-word (literal-of k n)
+  unfolding is-leaf literal-of
+  literal-found other ex = ex ∙ go k other
+    where
+      go : (k : Kind) → is-leaf k ≡ false → literal-word (pos n) ≡ literal-word (literal-of k n)
+      go (leaf y) e = absurd (false≢true (sym e))
+      go (join half l r) e = refl
+      go dummy e = refl
 
 pub side-none : (rs : List Record) (n v : ℕ) → v ≡ 0 → side-of 1 ≡ side rs n v
 unfolding side-of side

@@ -40,8 +40,8 @@ pub fn find(s: &[u32], records: usize, node: u32, v: u32) -> u32
 pub fn literal(s: &[u32], records: usize, node: u32, v: u32) -> u32
     ensures { λ r. ⌜ ((rs : List Record) → Stores (now (s .entry)) records rs → r ≡ literal-word (literal-of (nodeAt rs node .kind) (number-of rs node v))) ⌝ }
 {
-    if records::field(s, records, node as usize, records::KIND) == records::LEAF {
-        return records::field(s, records, node as usize, records::LITERAL);
+    if records::is_leaf(s, records, node) {
+        return records::literal(s, records, node);
     }
     find(s, records, node, v)
 }

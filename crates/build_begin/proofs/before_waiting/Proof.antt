@@ -22,11 +22,11 @@ abbrev μ-loop : tie.MeasureT-loop
 loop-holds : tie.Need-loop-holds Inv-loop μ-loop
 loop-holds c = (omega arith, λ rs es h a. omega arith)
 
-waits-requires : tie.Need-waits-requires Inv-loop μ-loop
-waits-requires c κs = search needs
+is-waiting-requires : tie.Need-is-waiting-requires Inv-loop μ-loop
+is-waiting-requires c κs = search needs
 
 returns : tie.Need-returns Inv-loop μ-loop
-returns c = λ rs es h a. walk-here rs es _ a (sym (c .before .waits .ensures (rs ++ map waiting es) h) ∙ c .if1 .taken) (c .before .before .before .loop .inv .1 rs es h a)
+returns c = λ rs es h a. walk-here rs es _ a (sym (c .before .is-waiting .ensures (rs ++ map waiting es) h) ∙ c .if1 .taken) (c .before .before .before .loop .inv .1 rs es h a)
 
 add-i : tie.Need-add-i Inv-loop μ-loop
 add-i c = omega (arith, c .before .before .loop-test .taken)
@@ -38,7 +38,7 @@ loop-again : tie.Need-loop-again Inv-loop μ-loop
 loop-again c =
     let loop-test = c .before .before .loop-test in
     let loop = c .before .before .before .loop in
-    (omega (arith, loop-test .taken), λ rs es h a. walk-on rs es _ (sym (c .before .waits .ensures (rs ++ map waiting es) h) ∙ c .if1 .left) (subst (λ (n : ℕ). loop .i < n) (h .count-is) (loop-test .taken)) (loop .inv .1 rs es h a))
+    (omega (arith, loop-test .taken), λ rs es h a. walk-on rs es _ (sym (c .before .is-waiting .ensures (rs ++ map waiting es) h) ∙ c .if1 .left) (subst (λ (n : ℕ). loop .i < n) (h .count-is) (loop-test .taken)) (loop .inv .1 rs es h a))
 
 returns-2 : tie.Need-returns-2 Inv-loop μ-loop
 returns-2 c = λ rs es h a. walk-end rs es _ _ (h .count-is) (c .loop-test .left) (c .before .loop .inv .1 rs es h a)
@@ -50,7 +50,7 @@ before-waiting-spec =
     Inv-loop
     μ-loop
     loop-holds
-    waits-requires
+    is-waiting-requires
     returns
     add-i
     loop-less

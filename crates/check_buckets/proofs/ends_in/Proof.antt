@@ -6,11 +6,11 @@ use Rattle.check_buckets.proofs.Buckets.{ends-none, ends-idle, ends-who
 use Rattle.check_buckets.proofs.ends_in.Statement.{statement}
 use Rattle.check_buckets.proofs.ends_in.Tie as tie
 
-joins-requires : tie.Need-joins-requires
-joins-requires c κs = search needs
+is-join-requires : tie.Need-is-join-requires
+is-join-requires c κs = search needs
 
 returns : tie.Need-returns
-returns c = λ rs h. ends-none rs _ _ (sym (c .before .joins .ensures rs h) ∙ not-true _ (c .if1 .taken))
+returns c = λ rs h. ends-none rs _ _ (sym (c .before .is-join .ensures rs h) ∙ not-true _ (c .if1 .taken))
 
 right-requires : tie.Need-right-requires
 right-requires c κs = search needs
@@ -19,22 +19,22 @@ is-dummy-requires : tie.Need-is-dummy-requires
 is-dummy-requires c κs = search needs
 
 returns-2 : tie.Need-returns-2
-returns-2 c = λ rs h. ends-idle rs _ (sym (c .before .before .before .before .joins .ensures rs h) ∙ not-false _ (c .before .before .before .if1 .left)) _ (c .before .before .right .ensures rs h) _ (c .before .is-dummy .ensures rs h) _ (not-true _ (c .if2 .taken))
+returns-2 c = λ rs h. ends-idle rs _ (sym (c .before .before .before .before .is-join .ensures rs h) ∙ not-false _ (c .before .before .before .if1 .left)) _ (c .before .before .right .ensures rs h) _ (c .before .is-dummy .ensures rs h) _ (not-true _ (c .if2 .taken))
 
 halved-requires : tie.Need-halved-requires
 halved-requires c κs = search needs
 
 returns-3 : tie.Need-returns-3
-returns-3 c = λ rs h. ends-whole rs _ (sym (c .before .before .before .before .before .before .joins .ensures rs h) ∙ not-false _ (c .before .before .before .before .before .if1 .left)) _ (c .before .before .before .before .right .ensures rs h) _ (c .before .before .before .is-dummy .ensures rs h) _ (not-false _ (c .before .before .if2 .left)) (sym (c .before .halved .ensures rs h) ∙ not-true _ (c .if3 .taken))
+returns-3 c = λ rs h. ends-whole rs _ (sym (c .before .before .before .before .before .before .is-join .ensures rs h) ∙ not-false _ (c .before .before .before .before .before .if1 .left)) _ (c .before .before .before .before .right .ensures rs h) _ (c .before .before .before .is-dummy .ensures rs h) _ (not-false _ (c .before .before .if2 .left)) (sym (c .before .halved .ensures rs h) ∙ not-true _ (c .if3 .taken))
 
 returns-4 : tie.Need-returns-4
-returns-4 c = λ rs h. ends-halved rs _ (sym (c .before .before .before .before .before .before .joins .ensures rs h) ∙ not-false _ (c .before .before .before .before .before .if1 .left)) _ (c .before .before .before .before .right .ensures rs h) _ (c .before .before .before .is-dummy .ensures rs h) _ (not-false _ (c .before .before .if2 .left)) (sym (c .before .halved .ensures rs h) ∙ not-false _ (c .if3 .left))
+returns-4 c = λ rs h. ends-halved rs _ (sym (c .before .before .before .before .before .before .is-join .ensures rs h) ∙ not-false _ (c .before .before .before .before .before .if1 .left)) _ (c .before .before .before .before .right .ensures rs h) _ (c .before .before .before .is-dummy .ensures rs h) _ (not-false _ (c .before .before .if2 .left)) (sym (c .before .halved .ensures rs h) ∙ not-false _ (c .if3 .left))
 
 pub ends-in-spec : {M : Type 1} → statement M
 ends-in-spec =
     tie.close
     (tie.spec
-    joins-requires
+    is-join-requires
     returns
     right-requires
     is-dummy-requires

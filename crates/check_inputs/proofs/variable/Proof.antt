@@ -1,24 +1,21 @@
 -- `variable` reads a leaf's literal.
-use mathlib.Core.Path.{_∙_}
+use mathlib.Core.Path.{ap, _∙_}
+use Prim.Native.Nat.{ℕ}
+use lib.IntN.{natAbs}
 use borrow.Author.Needs.{needs}
-use Rattle.rules.specs.Records.{nodeAt}
-use Rattle.check_inputs.proofs.Inputs.{variable-other, variable-leaf}
+use Rattle.rules.specs.Records.{word-literal}
+use Rattle.check_inputs.proofs.Inputs.{variable-word}
 use Rattle.check_inputs.proofs.variable.Statement.{statement}
 use Rattle.check_inputs.proofs.variable.Tie as tie
 
-read-requires : tie.Need-read-requires
-read-requires c κs = search needs
-
-returns : tie.Need-returns
-unfolding nodeAt
-returns c = λ rs h. variable-other _ _ (c .before .before .read .ensures rs h) (c .if1 .taken)
+literal-requires : tie.Need-literal-requires
+literal-requires c κs = search needs
 
 variable-requires : tie.Need-variable-requires
 variable-requires c κs = search needs
 
-returns-2 : tie.Need-returns-2
-unfolding nodeAt
-returns-2 c = λ rs h. c .variable .ensures ∙ variable-leaf _ _ (c .before .before .before .read .ensures rs h) (c .before .if1 .left)
+returns : tie.Need-returns
+returns c = λ rs h. c .variable .ensures ∙ (ap (λ (w : ℕ). natAbs (word-literal w)) (c .before .literal .ensures rs h) ∙ variable-word _)
 
 pub variable-spec : {M : Type 1} → statement M
-variable-spec = tie.close (tie.spec read-requires returns variable-requires returns-2)
+variable-spec = tie.close (tie.spec literal-requires variable-requires returns)

@@ -23,16 +23,13 @@ loop-holds : tie.Need-loop-holds Inv-loop μ-loop
 unfolding waits-in
 loop-holds c = λ rs h. refl
 
-read-requires : tie.Need-read-requires Inv-loop μ-loop
-read-requires c κs = search needs
-
 is-entry-requires : tie.Need-is-entry-requires Inv-loop μ-loop
 is-entry-requires c κs = search needs
 
 returns : tie.Need-returns Inv-loop μ-loop
 returns c =
-    let loop = c .before .before .before .before .loop in
-    λ rs h. search-hit (is-entry (c .before .before .before .before .before .before .args .n)) unknown rs _ _ (loop .inv rs h) (subst (λ (n : ℕ). loop .i < n) (h .count-is) (c .before .before .before .loop-test .taken)) (sym (c .before .is-entry .ensures _ (c .before .before .read .ensures rs h)) ∙ c .if1 .taken)
+    let loop = c .before .before .before .loop in
+    λ rs h. search-hit (is-entry (c .before .before .before .before .before .args .n)) unknown rs _ _ (loop .inv rs h) (subst (λ (n : ℕ). loop .i < n) (h .count-is) (c .before .before .loop-test .taken)) (sym (c .before .is-entry .ensures rs h) ∙ c .if1 .taken)
 
 add-i : tie.Need-add-i Inv-loop μ-loop
 add-i c = omega arith
@@ -42,8 +39,8 @@ loop-less c = omega arith
 
 loop-again : tie.Need-loop-again Inv-loop μ-loop
 loop-again c =
-    let loop = c .before .before .before .before .loop in
-    λ rs h. search-on (is-entry (c .before .before .before .before .before .before .args .n)) unknown rs _ _ (loop .inv rs h) (subst (λ (n : ℕ). loop .i < n) (h .count-is) (c .before .before .before .loop-test .taken)) (sym (c .before .is-entry .ensures _ (c .before .before .read .ensures rs h)) ∙ c .if1 .left)
+    let loop = c .before .before .before .loop in
+    λ rs h. search-on (is-entry (c .before .before .before .before .before .args .n)) unknown rs _ _ (loop .inv rs h) (subst (λ (n : ℕ). loop .i < n) (h .count-is) (c .before .before .loop-test .taken)) (sym (c .before .is-entry .ensures rs h) ∙ c .if1 .left)
 
 returns-2 : tie.Need-returns-2 Inv-loop μ-loop
 returns-2 c =
@@ -57,7 +54,6 @@ waits-from-spec =
     Inv-loop
     μ-loop
     loop-holds
-    read-requires
     is-entry-requires
     returns
     add-i

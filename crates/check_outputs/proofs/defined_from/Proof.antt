@@ -9,12 +9,12 @@ use Rattle.rules.specs.Lists.{any}
 use Rattle.rules.specs.Records.{Record, unknown}
 use Rattle.records.specs.Carries.{Stores}
 use Rattle.check_arrays.proofs.Walk.{search-on, search-hit, search-end}
-use Rattle.check_outputs.specs.Steps.{is-output, defined-in}
+use Rattle.check_outputs.specs.Steps.{defines, defined-in}
 use Rattle.check_outputs.proofs.defined_from.Statement.{statement}
 use Rattle.check_outputs.proofs.defined_from.Tie as tie
 
 abbrev Inv-loop : tie.InvT-loop
-Inv-loop s records from n v i₀ i = ((rs : List Record) → Stores s records rs → any (λ r. is-output r n v) (drop i rs) ≡ defined-in n v (drop from rs))
+Inv-loop s records from n v i₀ i = ((rs : List Record) → Stores s records rs → any (λ r. defines r n v) (drop i rs) ≡ defined-in n v (drop from rs))
 
 abbrev μ-loop : tie.MeasureT-loop
 μ-loop s records from n v i₀ i = records - i
@@ -23,17 +23,14 @@ loop-holds : tie.Need-loop-holds Inv-loop μ-loop
 unfolding defined-in
 loop-holds c = λ rs h. refl
 
-read-requires : tie.Need-read-requires Inv-loop μ-loop
-read-requires c κs = search needs
-
-is-output-requires : tie.Need-is-output-requires Inv-loop μ-loop
-is-output-requires c κs = search needs
+defines-requires : tie.Need-defines-requires Inv-loop μ-loop
+defines-requires c κs = search needs
 
 returns : tie.Need-returns Inv-loop μ-loop
 returns c =
-    let loop = c .before .before .before .before .loop in
-    let args = c .before .before .before .before .before .before .args in
-    λ rs h. search-hit (λ r. is-output r (args .n) (args .v)) unknown rs _ _ (loop .inv rs h) (subst (λ (n : ℕ). loop .i < n) (h .count-is) (c .before .before .before .loop-test .taken)) (sym (c .before .is-output .ensures _ (c .before .before .read .ensures rs h)) ∙ c .if1 .taken)
+    let loop = c .before .before .before .loop in
+    let args = c .before .before .before .before .before .args in
+    λ rs h. search-hit (λ r. defines r (args .n) (args .v)) unknown rs _ _ (loop .inv rs h) (subst (λ (n : ℕ). loop .i < n) (h .count-is) (c .before .before .loop-test .taken)) (sym (c .before .defines .ensures rs h) ∙ c .if1 .taken)
 
 add-i : tie.Need-add-i Inv-loop μ-loop
 add-i c = omega arith
@@ -43,15 +40,15 @@ loop-less c = omega arith
 
 loop-again : tie.Need-loop-again Inv-loop μ-loop
 loop-again c =
-    let loop = c .before .before .before .before .loop in
-    let args = c .before .before .before .before .before .before .args in
-    λ rs h. search-on (λ r. is-output r (args .n) (args .v)) unknown rs _ _ (loop .inv rs h) (subst (λ (n : ℕ). loop .i < n) (h .count-is) (c .before .before .before .loop-test .taken)) (sym (c .before .is-output .ensures _ (c .before .before .read .ensures rs h)) ∙ c .if1 .left)
+    let loop = c .before .before .before .loop in
+    let args = c .before .before .before .before .before .args in
+    λ rs h. search-on (λ r. defines r (args .n) (args .v)) unknown rs _ _ (loop .inv rs h) (subst (λ (n : ℕ). loop .i < n) (h .count-is) (c .before .before .loop-test .taken)) (sym (c .before .defines .ensures rs h) ∙ c .if1 .left)
 
 returns-2 : tie.Need-returns-2 Inv-loop μ-loop
 returns-2 c =
     let loop = c .before .loop in
     let args = c .before .before .before .args in
-    λ rs h. search-end (λ r. is-output r (args .n) (args .v)) unknown rs _ _ (loop .inv rs h) (subst (λ (n : ℕ). n ≤ loop .i) (h .count-is) (c .loop-test .left))
+    λ rs h. search-end (λ r. defines r (args .n) (args .v)) unknown rs _ _ (loop .inv rs h) (subst (λ (n : ℕ). n ≤ loop .i) (h .count-is) (c .loop-test .left))
 
 pub defined-from-spec : {M : Type 1} → statement M
 defined-from-spec =
@@ -60,8 +57,7 @@ defined-from-spec =
     Inv-loop
     μ-loop
     loop-holds
-    read-requires
-    is-output-requires
+    defines-requires
     returns
     add-i
     loop-less

@@ -1,11 +1,22 @@
 -- `next_low` goes past an output's number.
+use mathlib.Core.Path.{sym, _∙_}
 use borrow.Author.Needs.{needs}
+use borrow.Author.Tests.{not-true, not-false}
 use Rattle.check_outputs.proofs.Outputs.{low-other, low-output}
 use Rattle.check_outputs.proofs.next_low.Statement.{statement}
 use Rattle.check_outputs.proofs.next_low.Tie as tie
 
+is-output-requires : tie.Need-is-output-requires
+is-output-requires c κs = search needs
+
 returns : tie.Need-returns
-returns c = λ r e. low-other _ (c .if1 .taken) r _ e
+returns c = λ rs h. low-other _ (sym (c .before .is-output .ensures rs h) ∙ not-true _ (c .if1 .taken)) _
+
+output-number-requires : tie.Need-output-number-requires
+output-number-requires c κs = search needs
+
+variable-requires : tie.Need-variable-requires
+variable-requires c κs = search needs
 
 cast-result : tie.Need-cast-result
 cast-result c = search needs
@@ -14,7 +25,16 @@ add-result : tie.Need-add-result
 add-result c = search needs
 
 returns-2 : tie.Need-returns-2
-returns-2 c = λ r e. low-output r _ e (c .before .if1 .left) _
+returns-2 c = λ rs h. low-output _ (sym (c .before .before .before .is-output .ensures rs h) ∙ not-false _ (c .before .before .if1 .left)) _ _ (c .before .output-number .ensures rs h) (c .variable .ensures) _
 
 pub next-low-spec : {M : Type 1} → statement M
-next-low-spec = tie.close (tie.spec returns cast-result add-result returns-2)
+next-low-spec =
+    tie.close
+    (tie.spec
+    is-output-requires
+    returns
+    output-number-requires
+    variable-requires
+    cast-result
+    add-result
+    returns-2)

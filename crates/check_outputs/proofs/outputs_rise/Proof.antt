@@ -24,16 +24,13 @@ loop-holds : tie.Need-loop-holds Inv-loop μ-loop
 unfolding outputs-rise
 loop-holds c = (λ rs h. refl, omega arith)
 
-read-requires : tie.Need-read-requires Inv-loop μ-loop
-read-requires c κs = search needs
-
 rises-requires : tie.Need-rises-requires Inv-loop μ-loop
 rises-requires c κs = search needs
 
 returns : tie.Need-returns Inv-loop μ-loop
 returns c =
-    let loop = c .before .before .before .before .loop in
-    λ rs h. rise-stop rs _ _ _ (loop .inv .0 rs h) (subst (λ (n : ℕ). loop .i < n) (h .count-is) (c .before .before .before .loop-test .taken)) (sym (c .before .rises .ensures _ (c .before .before .read .ensures rs h)) ∙ not-true _ (c .if1 .taken))
+    let loop = c .before .before .before .loop in
+    λ rs h. rise-stop rs _ _ _ (loop .inv .0 rs h) (subst (λ (n : ℕ). loop .i < n) (h .count-is) (c .before .before .loop-test .taken)) (sym (c .before .rises .ensures rs h) ∙ not-true _ (c .if1 .taken))
 
 next-low-requires : tie.Need-next-low-requires Inv-loop μ-loop
 next-low-requires c κs = search needs
@@ -46,9 +43,8 @@ loop-less c = omega arith
 
 loop-again : tie.Need-loop-again Inv-loop μ-loop
 loop-again c =
-    let read = c .before .before .before .read in
-    let loop = c .before .before .before .before .before .loop in
-    (λ rs h. rise-on rs _ _ _ (loop .inv .0 rs h) (subst (λ (n : ℕ). loop .i < n) (h .count-is) (c .before .before .before .before .loop-test .taken)) _ (c .next-low .ensures _ (read .ensures rs h)) (sym (c .before .before .rises .ensures _ (read .ensures rs h)) ∙ not-false _ (c .before .if1 .left)), omega arith)
+    let loop = c .before .before .before .before .loop in
+    (λ rs h. rise-on rs _ _ _ (loop .inv .0 rs h) (subst (λ (n : ℕ). loop .i < n) (h .count-is) (c .before .before .before .loop-test .taken)) _ (c .next-low .ensures rs h) (sym (c .before .before .rises .ensures rs h) ∙ not-false _ (c .before .if1 .left)), omega arith)
 
 returns-2 : tie.Need-returns-2 Inv-loop μ-loop
 returns-2 c =
@@ -62,7 +58,6 @@ outputs-rise-spec =
     Inv-loop
     μ-loop
     loop-holds
-    read-requires
     rises-requires
     returns
     next-low-requires

@@ -18,25 +18,22 @@ returns c = λ rs h. fail-here _ _ (sym (c .before .is-node .ensures rs h) ∙ n
 
 returns-2 : tie.Need-returns-2
 unfolding entry-right
-returns-2 c = λ rs h. pass-here _ _ _ (sym (c .before .before .before .is-node .ensures rs h) ∙ not-false _ (c .before .before .if1 .left)) (fail-here _ _ (lt-leb 1 _ (c .if2 .taken)))
+returns-2 c = λ rs h. pass-here _ _ _ (sym (c .before .before .is-node .ensures rs h) ∙ not-false _ (c .before .if1 .left)) (fail-here _ _ (lt-leb 1 _ (c .if2 .taken)))
 
 returns-3 : tie.Need-returns-3
 unfolding entry-right
-returns-3 c = λ rs h. pass-here _ _ _ (sym (c .before .before .before .before .before .is-node .ensures rs h) ∙ not-false _ (c .before .before .before .before .if1 .left)) (pass-here _ _ _ (le-leb 1 _ (c .before .before .if2 .left)) (fail-here _ _ (lt-leb _ 1048575 (c .if3 .taken))))
-
-cast-if4 : tie.Need-cast-if4
-cast-if4 c = search needs
+returns-3 c = λ rs h. pass-here _ _ _ (sym (c .before .before .before .is-node .ensures rs h) ∙ not-false _ (c .before .before .if1 .left)) (pass-here _ _ _ (le-leb 1 _ (c .before .if2 .left)) (fail-here _ _ (lt-leb _ 1048575 (c .if3 .taken))))
 
 returns-4 : tie.Need-returns-4
 unfolding entry-right
-returns-4 c = λ rs h. pass-here _ _ _ (sym (c .before .before .before .before .before .before .before .before .is-node .ensures rs h) ∙ not-false _ (c .before .before .before .before .before .before .before .if1 .left)) (pass-here _ _ _ (le-leb 1 _ (c .before .before .before .before .before .if2 .left)) (pass-here _ _ _ (le-leb _ 1048575 (c .before .before .before .if3 .left)) (fail-here _ _ (le-ltb _ _ (c .if4 .taken)))))
+returns-4 c = λ rs h. pass-here _ _ _ (sym (c .before .before .before .before .before .is-node .ensures rs h) ∙ not-false _ (c .before .before .before .before .if1 .left)) (pass-here _ _ _ (le-leb 1 _ (c .before .before .before .if2 .left)) (pass-here _ _ _ (le-leb _ 1048575 (c .before .before .if3 .left)) (fail-here _ _ (le-ltb _ _ (c .if4 .taken)))))
 
 among-requires : tie.Need-among-requires
 among-requires c κs = search needs
 
 returns-5 : tie.Need-returns-5
 unfolding entry-right
-returns-5 c = λ rs h. pass-here _ _ _ (sym (c .before .before .before .before .before .before .before .before .before .is-node .ensures rs h) ∙ not-false _ (c .before .before .before .before .before .before .before .before .if1 .left)) (pass-here _ _ _ (le-leb 1 _ (c .before .before .before .before .before .before .if2 .left)) (pass-here _ _ _ (le-leb _ 1048575 (c .before .before .before .before .if3 .left)) (pass-here _ _ _ (lt-ltb _ _ (c .before .if4 .left)) (ap not (c .among .ensures)))))
+returns-5 c = λ rs h. pass-here _ _ _ (sym (c .before .before .before .before .before .before .is-node .ensures rs h) ∙ not-false _ (c .before .before .before .before .before .if1 .left)) (pass-here _ _ _ (le-leb 1 _ (c .before .before .before .before .if2 .left)) (pass-here _ _ _ (le-leb _ 1048575 (c .before .before .before .if3 .left)) (pass-here _ _ _ (lt-ltb _ _ (c .before .if4 .left)) (ap not (c .among .ensures)))))
 
 pub entry-right-spec : {M : Type 1} → statement M
 entry-right-spec =
@@ -46,7 +43,6 @@ entry-right-spec =
     returns
     returns-2
     returns-3
-    cast-if4
     returns-4
     among-requires
     returns-5)

@@ -26,7 +26,7 @@ returns-2 c = λ rs h. pass-here _ _ _ (sym (c .before .before .before .is-node 
 
 returns-3 : tie.Need-returns-3
 unfolding kind-right
-returns-3 c = λ rs h. pass-here _ _ _ (sym (c .before .before .before .before .before .is-node .ensures rs h) ∙ not-false _ (c .before .before .before .before .if1 .left)) (pass-here _ _ _ (sym (c .before .before .before .is-node2 .ensures rs h) ∙ not-false _ (c .before .before .if2 .left)) (fail-here _ _ (lt-leb _ 513 (c .if3 .taken))))
+returns-3 c = λ rs h. pass-here _ _ _ (sym (c .before .before .before .before .is-node .ensures rs h) ∙ not-false _ (c .before .before .before .if1 .left)) (pass-here _ _ _ (sym (c .before .before .is-node2 .ensures rs h) ∙ not-false _ (c .before .if2 .left)) (fail-here _ _ (lt-leb _ 513 (c .if3 .taken))))
 
 maximum-requires : tie.Need-maximum-requires
 maximum-requires c κs = search needs
@@ -43,15 +43,12 @@ counted-requires c κs = search needs
 cast-y : tie.Need-cast-y
 cast-y c = search needs
 
-cast-if4 : tie.Need-cast-if4
-cast-if4 c = search needs
-
 add-if4 : tie.Need-add-if4
 add-if4 c = search needs
 
 returns-4 : tie.Need-returns-4
 unfolding kind-right
-returns-4 c = λ rs h. pass-here _ _ _ (sym (c .before .before .before .before .before .before .before .before .before .before .is-node .ensures rs h) ∙ not-false _ (c .before .before .before .before .before .before .before .before .before .if1 .left)) (pass-here _ _ _ (sym (c .before .before .before .before .before .before .before .before .is-node2 .ensures rs h) ∙ not-false _ (c .before .before .before .before .before .before .before .if2 .left)) (pass-here _ _ _ (le-leb _ 513 (c .before .before .before .before .before .if3 .left)) (fail-here _ _ (ne-eqb _ _ (λ q. c .if4 .taken (q ∙ sym (ap₂ _+_ (c .before .before .before .before .maximum .ensures rs h) (c .before .before .counted .ensures ∙ ap (counts (eqb (c .before .before .before .before .before .before .before .before .before .before .before .before .args .f .c) 1)) (c .before .before .before .maximum2 .ensures rs h)))))))))
+returns-4 c = λ rs h. pass-here _ _ _ (sym (c .before .before .before .before .before .before .before .before .is-node .ensures rs h) ∙ not-false _ (c .before .before .before .before .before .before .before .if1 .left)) (pass-here _ _ _ (sym (c .before .before .before .before .before .before .is-node2 .ensures rs h) ∙ not-false _ (c .before .before .before .before .before .if2 .left)) (pass-here _ _ _ (le-leb _ 513 (c .before .before .before .before .if3 .left)) (fail-here _ _ (ne-eqb _ _ (λ q. c .if4 .taken (q ∙ sym (ap₂ _+_ (c .before .before .before .maximum .ensures rs h) (c .before .counted .ensures ∙ ap (counts (c .before .before .before .before .before .before .before .before .before .before .args .half)) (c .before .before .maximum2 .ensures rs h)))))))))
 
 height-requires : tie.Need-height-requires
 height-requires c κs = search needs
@@ -65,17 +62,14 @@ larger-requires c κs = search needs
 cast-z : tie.Need-cast-z
 cast-z c = search needs
 
-cast-result : tie.Need-cast-result
-cast-result c = search needs
-
 add-result : tie.Need-add-result
 add-result c = search needs
 
 returns-5 : tie.Need-returns-5
 unfolding kind-right
 returns-5 c =
-    let args = c .before .before .before .before .before .before .before .before .before .before .before .before .before .before .before .before .args in
-    λ rs h. pass-here _ _ _ (sym (c .before .before .before .before .before .before .before .before .before .before .before .before .before .before .is-node .ensures rs h) ∙ not-false _ (c .before .before .before .before .before .before .before .before .before .before .before .before .before .if1 .left)) (pass-here _ _ _ (sym (c .before .before .before .before .before .before .before .before .before .before .before .before .is-node2 .ensures rs h) ∙ not-false _ (c .before .before .before .before .before .before .before .before .before .before .before .if2 .left)) (pass-here _ _ _ (le-leb _ 513 (c .before .before .before .before .before .before .before .before .before .if3 .left)) (pass-here _ _ _ (eq-eqb _ _ (c .before .before .before .before .if4 .left ∙ ap₂ _+_ (c .before .before .before .before .before .before .before .before .maximum .ensures rs h) (c .before .before .before .before .before .before .counted .ensures ∙ ap (counts (eqb (args .f .c) 1)) (c .before .before .before .before .before .before .before .maximum2 .ensures rs h)))) (ap (λ (x : ℕ). eqb (args .f .height) (x + 1)) (c .before .larger .ensures ∙ ap₂ max (c .before .before .before .height .ensures rs h) (c .before .before .height2 .ensures rs h))))))
+    let args = c .before .before .before .before .before .before .before .before .before .before .before .before .before .args in
+    λ rs h. pass-here _ _ _ (sym (c .before .before .before .before .before .before .before .before .before .before .before .is-node .ensures rs h) ∙ not-false _ (c .before .before .before .before .before .before .before .before .before .before .if1 .left)) (pass-here _ _ _ (sym (c .before .before .before .before .before .before .before .before .before .is-node2 .ensures rs h) ∙ not-false _ (c .before .before .before .before .before .before .before .before .if2 .left)) (pass-here _ _ _ (le-leb _ 513 (c .before .before .before .before .before .before .before .if3 .left)) (pass-here _ _ _ (eq-eqb _ _ (c .before .before .before .if4 .left ∙ ap₂ _+_ (c .before .before .before .before .before .before .maximum .ensures rs h) (c .before .before .before .before .counted .ensures ∙ ap (counts (args .half)) (c .before .before .before .before .before .maximum2 .ensures rs h)))) (ap (λ (x : ℕ). eqb (args .height) (x + 1)) (c .larger .ensures ∙ ap₂ max (c .before .before .height .ensures rs h) (c .before .height2 .ensures rs h))))))
 
 pub join-right-spec : {M : Type 1} → statement M
 join-right-spec =
@@ -91,13 +85,11 @@ join-right-spec =
     maximum-requires-2
     counted-requires
     cast-y
-    cast-if4
     add-if4
     returns-4
     height-requires
     height-requires-2
     larger-requires
     cast-z
-    cast-result
     add-result
     returns-5)

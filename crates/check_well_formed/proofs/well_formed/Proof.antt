@@ -8,7 +8,7 @@ use Rattle.rules.specs.WellFormed.{marks-within, well-formed, well-formed-claus
 use Rattle.check_arrays.proofs.Walk.{fail-here, pass-here}
 use Rattle.check_well_formed.specs.Groups.{state-right}
 use Rattle.check_well_formed.proofs.Regroup.{regroup}
-use Rattle.check_well_formed.proofs.Ways.{stores-held, marks-room}
+use Rattle.check_well_formed.proofs.Ways.{stores-held, marks-room, marks-few}
 use Rattle.laws.specs.Records.Words.{both}
 use Rattle.check_well_formed.proofs.well_formed.Statement.{statement}
 use Rattle.check_well_formed.proofs.well_formed.Tie as tie
@@ -41,7 +41,10 @@ returns-3 c =
     pass-here _ _ _ (sym (marks-within .ensures) ∙ not-false _ (if1 .left)) (pass-here _ _ _ (sym (c .before .before .before .state-right .ensures) ∙ not-false _ (c .before .before .if2 .left)) (fail-here _ _ (sym (c .before .kinds-known .ensures (marks-room (args .store .now) (args .s .records) (both _ _ (sym (marks-within .ensures) ∙ not-false _ (if1 .left)) .0))) ∙ not-true _ (c .if3 .taken))) ∙ regroup (args .s) (held (args .s) (args .store .now)))
 
 over-records-requires : tie.Need-over-records-requires
-over-records-requires c κs = search needs
+unfolding marks-within
+over-records-requires c κs =
+    let args = c .before .before .before .before .before .before .before .args in
+    marks-few (args .store .now) (args .s .records) (both _ _ (sym (c .before .before .before .before .before .marks-within .ensures) ∙ not-false _ (c .before .before .before .before .if1 .left)) .0)
 
 returns-4 : tie.Need-returns-4
 unfolding well-formed well-formed-clauses all marks-within held

@@ -1,20 +1,17 @@
--- `left` reads the left link of a join.
-use Rattle.records.proofs.Read.{left-none, left-some}
+-- `left` reads a word of the records of one kind.
+use native.Mathlib.Omega.{arith}
 use borrow.Author.Needs.{needs}
+use Rattle.rules.specs.Records.{node-of, nodeAt, left-link}
+use Rattle.records.proofs.Read.{left-held, held-tells}
 use Rattle.records.proofs.left.Statement.{statement}
 use Rattle.records.proofs.left.Tie as tie
 
-field-requires : tie.Need-field-requires
-field-requires c κs = search needs
+held-requires : tie.Need-held-requires
+held-requires c κs = search needs
 
 returns : tie.Need-returns
-returns c = λ rs h. left-none _ _ rs h _ _ (c .before .field .ensures) (c .if1 .taken)
-
-field-requires-2 : tie.Need-field-requires-2
-field-requires-2 c κs = search needs
-
-returns-2 : tie.Need-returns-2
-returns-2 c = λ rs h. left-some _ _ rs h _ _ (c .before .before .field .ensures) (c .before .if1 .left) _ (c .field2 .ensures)
+unfolding nodeAt
+returns c = λ rs h. held-tells _ _ rs h (λ r. left-link (node-of r .kind)) 2 1 left-held (omega arith) _ _ (c .held .ensures)
 
 pub left-spec : {M : Type 1} → statement M
-left-spec = tie.close (tie.spec field-requires returns field-requires-2 returns-2)
+left-spec = tie.close (tie.spec held-requires returns)

@@ -21,8 +21,8 @@ abbrev μ-loop : tie.MeasureT-loop
 loop-holds : tie.Need-loop-holds Inv-loop μ-loop
 loop-holds c = (λ rs h. omega arith, omega arith)
 
-weight-requires : tie.Need-weight-requires Inv-loop μ-loop
-weight-requires c κs = search needs
+entry-weight-requires : tie.Need-entry-weight-requires Inv-loop μ-loop
+entry-weight-requires c κs = search needs
 
 larger-requires : tie.Need-larger-requires Inv-loop μ-loop
 larger-requires c κs = search needs
@@ -34,7 +34,7 @@ loop-less : tie.Need-loop-less Inv-loop μ-loop
 loop-less c = omega arith
 
 loop-again : tie.Need-loop-again Inv-loop μ-loop
-loop-again c = (λ rs h. largest-on _ _ rs h _ _ _ _ (c .before .before .loop-test .taken) (c .before .weight .ensures rs h) (c .larger .ensures) (c .before .before .before .loop .inv .0 rs h), omega arith)
+loop-again c = (λ rs h. largest-on _ _ rs h _ _ _ _ (c .before .before .loop-test .taken) (c .before .entry-weight .ensures rs h) (c .larger .ensures) (c .before .before .before .loop .inv .0 rs h), omega arith)
 
 returns : tie.Need-returns Inv-loop μ-loop
 returns c = λ rs h. largest-end _ _ rs h _ _ (c .loop-test .left) (c .before .loop .inv .0 rs h)
@@ -46,7 +46,7 @@ largest-spec =
     Inv-loop
     μ-loop
     loop-holds
-    weight-requires
+    entry-weight-requires
     larger-requires
     add-i
     loop-less

@@ -21,11 +21,11 @@ abbrev μ-loop : tie.MeasureT-loop
 loop-holds : tie.Need-loop-holds Inv-loop μ-loop
 loop-holds c = (λ rs h. refl, omega arith)
 
-waits-requires : tie.Need-waits-requires Inv-loop μ-loop
-waits-requires c κs = search needs
+is-waiting-requires : tie.Need-is-waiting-requires Inv-loop μ-loop
+is-waiting-requires c κs = search needs
 
 returns : tie.Need-returns Inv-loop μ-loop
-returns c = λ rs h. some-stop _ _ rs h _ _ (c .before .before .loop-test .taken) (c .before .waits .ensures rs h) (c .if1 .taken) (c .before .before .before .loop .inv .0 rs h)
+returns c = λ rs h. some-stop _ _ rs h _ _ (c .before .before .loop-test .taken) (c .before .is-waiting .ensures rs h) (c .if1 .taken) (c .before .before .before .loop .inv .0 rs h)
 
 add-i : tie.Need-add-i Inv-loop μ-loop
 add-i c = omega arith
@@ -34,7 +34,7 @@ loop-less : tie.Need-loop-less Inv-loop μ-loop
 loop-less c = omega arith
 
 loop-again : tie.Need-loop-again Inv-loop μ-loop
-loop-again c = (λ rs h. some-on _ _ rs h _ _ (c .before .before .loop-test .taken) (c .before .waits .ensures rs h) (c .if1 .left) (c .before .before .before .loop .inv .0 rs h), omega arith)
+loop-again c = (λ rs h. some-on _ _ rs h _ _ (c .before .before .loop-test .taken) (c .before .is-waiting .ensures rs h) (c .if1 .left) (c .before .before .before .loop .inv .0 rs h), omega arith)
 
 returns-2 : tie.Need-returns-2 Inv-loop μ-loop
 returns-2 c = λ rs h. some-end _ _ rs h _ (c .loop-test .left) (c .before .loop .inv .0 rs h)
@@ -46,7 +46,7 @@ some-wait-spec =
     Inv-loop
     μ-loop
     loop-holds
-    waits-requires
+    is-waiting-requires
     returns
     add-i
     loop-less

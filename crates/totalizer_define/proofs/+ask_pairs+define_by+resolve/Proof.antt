@@ -9,7 +9,7 @@ use Rattle.rules.specs.Lists.{in-turn}
 use Rattle.rules.specs.Totalizer.{asks, ask-pair, define, pairs-from}
 use Rattle.records.specs.Carries.{st}
 use Rattle.records.proofs.Step.{Rest, rest-start, rest-end}
-use Rattle.totalizer_clauses.proofs.Pairs.{asks-later, asks-whole}
+use Rattle.totalizer_clauses.proofs.PairWalk.{asks-later, asks-whole}
 use Rattle.totalizer_define.proofs.Pairs.{pairs-end}
 use Rattle.totalizer_define.proofs.Defining.{ask-none, ask-some, asks-turn, def-zero, def-stop, def-other, def-found, def-done}
 use Prim.Native.Nat.{ℕ, _<_}
@@ -25,7 +25,7 @@ use Rattle.totalizer_define.proofs.resolve.Reads as resolve
 use Rattle.totalizer_define.proofs.resolve.Kinds as resolve-kinds
 use Rattle.totalizer_define.proofs.+ask_pairs+define_by+resolve.Lts-resolve as resolve-lts
 use Rattle.records.proofs.halved.Reads as halved-reads
-use Rattle.records.proofs.joins.Reads as joins-reads
+use Rattle.records.proofs.is_join.Reads as is-join-reads
 use Rattle.records.proofs.left.Reads as left-reads
 use Rattle.records.proofs.right.Reads as right-reads
 use Rattle.totalizer_clauses.proofs.finish.Reads as finish-reads
@@ -179,8 +179,8 @@ ask-pairs-returns :
 ask-pairs-returns t c = λ i. rest-end _ _ _ _ (pairs-end _ _ _ _ _ _ _ (c .loop-test .left)) (c .before .loop .inv .0 i)
 
 define-by-returns : (t : ℕ) → define-by-lts.Need-returns (
-  joins-reads.Asked,
-  joins-reads.Learnt,
+  is-join-reads.Asked,
+  is-join-reads.Learnt,
   find-reads.Asked,
   find-reads.Learnt,
   halved-reads.Asked,
@@ -199,8 +199,8 @@ define-by-returns : (t : ℕ) → define-by-lts.Need-returns (
 define-by-returns t c = def-zero _ _ _ _ (c .if1 .taken)
 
 define-by-returns-2 : (t : ℕ) → define-by-lts.Need-returns-2 (
-  joins-reads.Asked,
-  joins-reads.Learnt,
+  is-join-reads.Asked,
+  is-join-reads.Learnt,
   find-reads.Asked,
   find-reads.Learnt,
   halved-reads.Asked,
@@ -218,9 +218,9 @@ define-by-returns-2 : (t : ℕ) → define-by-lts.Need-returns-2 (
 ) (define-by-at t) define-by.Post
 define-by-returns-2 t c = def-stop _ _ _ _ (c .if2 .taken)
 
-define-by-joins-requires : (t : ℕ) → define-by-lts.Need-joins-requires (
-  joins-reads.Asked,
-  joins-reads.Learnt,
+define-by-is-join-requires : (t : ℕ) → define-by-lts.Need-is-join-requires (
+  is-join-reads.Asked,
+  is-join-reads.Learnt,
   find-reads.Asked,
   find-reads.Learnt,
   halved-reads.Asked,
@@ -236,11 +236,11 @@ define-by-joins-requires : (t : ℕ) → define-by-lts.Need-joins-requires (
   finish-reads.Asked,
   finish-reads.Learnt,
 ) (define-by-at t) define-by.Post
-define-by-joins-requires t c κs = search needs
+define-by-is-join-requires t c κs = search needs
 
 define-by-same-length : (t : ℕ) → define-by-lts.Need-same-length (
-  joins-reads.Asked,
-  joins-reads.Learnt,
+  is-join-reads.Asked,
+  is-join-reads.Learnt,
   find-reads.Asked,
   find-reads.Learnt,
   halved-reads.Asked,
@@ -259,8 +259,8 @@ define-by-same-length : (t : ℕ) → define-by-lts.Need-same-length (
 define-by-same-length t c = search needs
 
 define-by-returns-3 : (t : ℕ) → define-by-lts.Need-returns-3 (
-  joins-reads.Asked,
-  joins-reads.Learnt,
+  is-join-reads.Asked,
+  is-join-reads.Learnt,
   find-reads.Asked,
   find-reads.Learnt,
   halved-reads.Asked,
@@ -276,11 +276,11 @@ define-by-returns-3 : (t : ℕ) → define-by-lts.Need-returns-3 (
   finish-reads.Asked,
   finish-reads.Learnt,
 ) (define-by-at t) define-by.Post
-define-by-returns-3 t c = def-other _ _ _ _ _ _ (c .before .before .before .before .if1 .left) (c .before .before .before .if2 .left) _ (c .before .joins .ensures) (not-true _ (c .if3 .taken))
+define-by-returns-3 t c = def-other _ _ _ _ _ _ (c .before .before .before .before .if1 .left) (c .before .before .before .if2 .left) _ (c .before .is-join .ensures) (not-true _ (c .if3 .taken))
 
 define-by-find-requires : (t : ℕ) → define-by-lts.Need-find-requires (
-  joins-reads.Asked,
-  joins-reads.Learnt,
+  is-join-reads.Asked,
+  is-join-reads.Learnt,
   find-reads.Asked,
   find-reads.Learnt,
   halved-reads.Asked,
@@ -299,8 +299,8 @@ define-by-find-requires : (t : ℕ) → define-by-lts.Need-find-requires (
 define-by-find-requires t c κs = search needs
 
 define-by-same-length-2 : (t : ℕ) → define-by-lts.Need-same-length-2 (
-  joins-reads.Asked,
-  joins-reads.Learnt,
+  is-join-reads.Asked,
+  is-join-reads.Learnt,
   find-reads.Asked,
   find-reads.Learnt,
   halved-reads.Asked,
@@ -319,8 +319,8 @@ define-by-same-length-2 : (t : ℕ) → define-by-lts.Need-same-length-2 (
 define-by-same-length-2 t c = search needs
 
 define-by-returns-4 : (t : ℕ) → define-by-lts.Need-returns-4 (
-  joins-reads.Asked,
-  joins-reads.Learnt,
+  is-join-reads.Asked,
+  is-join-reads.Learnt,
   find-reads.Asked,
   find-reads.Learnt,
   halved-reads.Asked,
@@ -336,11 +336,11 @@ define-by-returns-4 : (t : ℕ) → define-by-lts.Need-returns-4 (
   finish-reads.Asked,
   finish-reads.Learnt,
 ) (define-by-at t) define-by.Post
-define-by-returns-4 t c = def-found _ _ _ _ _ _ (c .before .before .before .before .before .before .before .if1 .left) (c .before .before .before .before .before .before .if2 .left) _ (c .before .before .before .before .joins .ensures) _ (c .before .find .ensures) (c .if4 .taken)
+define-by-returns-4 t c = def-found _ _ _ _ _ _ (c .before .before .before .before .before .before .before .if1 .left) (c .before .before .before .before .before .before .if2 .left) _ (c .before .before .before .before .is-join .ensures) _ (c .before .find .ensures) (c .if4 .taken)
 
 define-by-halved-requires : (t : ℕ) → define-by-lts.Need-halved-requires (
-  joins-reads.Asked,
-  joins-reads.Learnt,
+  is-join-reads.Asked,
+  is-join-reads.Learnt,
   find-reads.Asked,
   find-reads.Learnt,
   halved-reads.Asked,
@@ -359,8 +359,8 @@ define-by-halved-requires : (t : ℕ) → define-by-lts.Need-halved-requires (
 define-by-halved-requires t c κs = search needs
 
 define-by-left-requires : (t : ℕ) → define-by-lts.Need-left-requires (
-  joins-reads.Asked,
-  joins-reads.Learnt,
+  is-join-reads.Asked,
+  is-join-reads.Learnt,
   find-reads.Asked,
   find-reads.Learnt,
   halved-reads.Asked,
@@ -379,8 +379,8 @@ define-by-left-requires : (t : ℕ) → define-by-lts.Need-left-requires (
 define-by-left-requires t c κs = search needs
 
 define-by-right-requires : (t : ℕ) → define-by-lts.Need-right-requires (
-  joins-reads.Asked,
-  joins-reads.Learnt,
+  is-join-reads.Asked,
+  is-join-reads.Learnt,
   find-reads.Asked,
   find-reads.Learnt,
   halved-reads.Asked,
@@ -399,8 +399,8 @@ define-by-right-requires : (t : ℕ) → define-by-lts.Need-right-requires (
 define-by-right-requires t c κs = search needs
 
 define-by-spread-requires : (t : ℕ) → define-by-lts.Need-spread-requires (
-  joins-reads.Asked,
-  joins-reads.Learnt,
+  is-join-reads.Asked,
+  is-join-reads.Learnt,
   find-reads.Asked,
   find-reads.Learnt,
   halved-reads.Asked,
@@ -419,8 +419,8 @@ define-by-spread-requires : (t : ℕ) → define-by-lts.Need-spread-requires (
 define-by-spread-requires t c κs = search needs
 
 define-by-sub-ask-pairs : (t : ℕ) → define-by-lts.Need-sub-ask-pairs (
-  joins-reads.Asked,
-  joins-reads.Learnt,
+  is-join-reads.Asked,
+  is-join-reads.Learnt,
   find-reads.Asked,
   find-reads.Learnt,
   halved-reads.Asked,
@@ -439,8 +439,8 @@ define-by-sub-ask-pairs : (t : ℕ) → define-by-lts.Need-sub-ask-pairs (
 define-by-sub-ask-pairs t c = omega arith
 
 define-by-ask-pairs-requires : (t : ℕ) → define-by-lts.Need-ask-pairs-requires (
-  joins-reads.Asked,
-  joins-reads.Learnt,
+  is-join-reads.Asked,
+  is-join-reads.Learnt,
   find-reads.Asked,
   find-reads.Learnt,
   halved-reads.Asked,
@@ -459,8 +459,8 @@ define-by-ask-pairs-requires : (t : ℕ) → define-by-lts.Need-ask-pairs-requir
 define-by-ask-pairs-requires t c κs = (omega (arith, c .before .before .before .before .before .before .before .before .before .before .before .before .before .before .before .before .before .if1 .left, c .before .before .before .before .before .before .before .before .before .before .before .before .before .before .before .before .before .before .before .pre), c .before .before .spread .ensures .within)
 
 define-by-finish-requires : (t : ℕ) → define-by-lts.Need-finish-requires (
-  joins-reads.Asked,
-  joins-reads.Learnt,
+  is-join-reads.Asked,
+  is-join-reads.Learnt,
   find-reads.Asked,
   find-reads.Learnt,
   halved-reads.Asked,
@@ -479,8 +479,8 @@ define-by-finish-requires : (t : ℕ) → define-by-lts.Need-finish-requires (
 define-by-finish-requires t c κs = search needs
 
 define-by-same-length-3 : (t : ℕ) → define-by-lts.Need-same-length-3 (
-  joins-reads.Asked,
-  joins-reads.Learnt,
+  is-join-reads.Asked,
+  is-join-reads.Learnt,
   find-reads.Asked,
   find-reads.Learnt,
   halved-reads.Asked,
@@ -499,8 +499,8 @@ define-by-same-length-3 : (t : ℕ) → define-by-lts.Need-same-length-3 (
 define-by-same-length-3 t c = c .before .before .before .finish .kept .0 ∙ c .before .before .before .before .before .before .before .before .before .ask-pairs .kept .0
 
 define-by-same-length-4 : (t : ℕ) → define-by-lts.Need-same-length-4 (
-  joins-reads.Asked,
-  joins-reads.Learnt,
+  is-join-reads.Asked,
+  is-join-reads.Learnt,
   find-reads.Asked,
   find-reads.Learnt,
   halved-reads.Asked,
@@ -519,8 +519,8 @@ define-by-same-length-4 : (t : ℕ) → define-by-lts.Need-same-length-4 (
 define-by-same-length-4 t c = c .before .before .before .finish .kept .1 .0 ∙ c .before .before .before .before .before .before .before .before .before .ask-pairs .kept .1 .0
 
 define-by-returns-5 : (t : ℕ) → define-by-lts.Need-returns-5 (
-  joins-reads.Asked,
-  joins-reads.Learnt,
+  is-join-reads.Asked,
+  is-join-reads.Learnt,
   find-reads.Asked,
   find-reads.Learnt,
   halved-reads.Asked,
@@ -536,7 +536,7 @@ define-by-returns-5 : (t : ℕ) → define-by-lts.Need-returns-5 (
   finish-reads.Asked,
   finish-reads.Learnt,
 ) (define-by-at t) define-by.Post
-define-by-returns-5 t c = def-done _ _ _ _ _ _ (c .before .before .before .before .before .before .before .before .before .before .before .before .before .before .before .before .before .before .before .before .before .before .before .before .before .before .before .if1 .left) (c .before .before .before .before .before .before .before .before .before .before .before .before .before .before .before .before .before .before .before .before .before .before .before .before .before .before .if2 .left) _ (c .before .before .before .before .before .before .before .before .before .before .before .before .before .before .before .before .before .before .before .before .before .before .before .before .joins .ensures) _ (c .before .before .before .before .before .before .before .before .before .before .before .before .before .before .before .before .before .before .before .before .before .find .ensures) (not-false _ (c .before .before .before .before .before .before .before .before .before .before .before .before .before .before .before .before .before .before .before .before .before .before .before .if3 .left)) (c .before .before .before .before .before .before .before .before .before .before .before .before .before .before .before .before .before .before .before .before .if4 .left) _ _ _ _ _ (c .before .before .before .before .before .before .before .before .before .before .before .before .before .before .before .before .before .before .halved .ensures) (c .before .before .before .before .before .before .before .before .before .before .before .before .before .before .before .before .left .ensures) (c .before .before .before .before .before .before .before .before .before .before .before .before .before .before .right .ensures) (c .before .before .before .before .before .before .before .before .before .before .before .before .spread .ensures) _ _ (c .before .before .before .before .before .before .before .before .before .ask-pairs .ensures) (c .before .before .before .finish .ensures)
+define-by-returns-5 t c = def-done _ _ _ _ _ _ (c .before .before .before .before .before .before .before .before .before .before .before .before .before .before .before .before .before .before .before .before .before .before .before .before .before .before .before .if1 .left) (c .before .before .before .before .before .before .before .before .before .before .before .before .before .before .before .before .before .before .before .before .before .before .before .before .before .before .if2 .left) _ (c .before .before .before .before .before .before .before .before .before .before .before .before .before .before .before .before .before .before .before .before .before .before .before .before .is-join .ensures) _ (c .before .before .before .before .before .before .before .before .before .before .before .before .before .before .before .before .before .before .before .before .before .find .ensures) (not-false _ (c .before .before .before .before .before .before .before .before .before .before .before .before .before .before .before .before .before .before .before .before .before .before .before .if3 .left)) (c .before .before .before .before .before .before .before .before .before .before .before .before .before .before .before .before .before .before .before .before .if4 .left) _ _ _ _ _ (c .before .before .before .before .before .before .before .before .before .before .before .before .before .before .before .before .before .before .halved .ensures) (c .before .before .before .before .before .before .before .before .before .before .before .before .before .before .before .before .left .ensures) (c .before .before .before .before .before .before .before .before .before .before .before .before .before .before .right .ensures) (c .before .before .before .before .before .before .before .before .before .before .before .before .spread .ensures) _ _ (c .before .before .before .before .before .before .before .before .before .ask-pairs .ensures) (c .before .before .before .finish .ensures)
 
 resolve-through-requires : (t : ℕ) → resolve-lts.Need-through-requires (
   through-reads.Asked,
@@ -609,8 +609,8 @@ pub +ask-pairs+define-by+resolve-spec : {M : Type 1} → statement M
     (ask-pairs-same-length-2 t)
     (ask-pairs-returns t))
     (λ t. define-by-lts.spec (
-      joins-reads.Asked,
-      joins-reads.Learnt,
+      is-join-reads.Asked,
+      is-join-reads.Learnt,
       find-reads.Asked,
       find-reads.Learnt,
       halved-reads.Asked,
@@ -630,7 +630,7 @@ pub +ask-pairs+define-by+resolve-spec : {M : Type 1} → statement M
     define-by.Post
     (define-by-returns t)
     (define-by-returns-2 t)
-    (define-by-joins-requires t)
+    (define-by-is-join-requires t)
     (define-by-same-length t)
     (define-by-returns-3 t)
     (define-by-find-requires t)

@@ -1,5 +1,5 @@
 -- `extend` counts the first pairs, those whose b exceeds the bound, asks for what they use and then writes their clauses.
-use Rattle.totalizer_clauses.proofs.Pairs.{span-fewer}
+use Rattle.totalizer_clauses.proofs.PairWalk.{span-fewer}
 use Rattle.totalizer_define.proofs.Defining.{extend-stop, extend-done}
 use borrow.Author.Needs.{needs}
 use Rattle.totalizer_define.proofs.extend.Statement.{statement}

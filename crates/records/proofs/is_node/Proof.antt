@@ -1,8 +1,8 @@
--- `is_node` tests for the kinds 1 to 3.
+-- `is_node` tests for the kinds of nodes.
 use borrow.Author.Needs.{needs}
-use Rattle.check_records.proofs.Right.{node-none, node-some}
-use Rattle.check_records.proofs.is_node.Statement.{statement}
-use Rattle.check_records.proofs.is_node.Tie as tie
+use Rattle.records.proofs.Read.{node-none, node-some}
+use Rattle.records.proofs.is_node.Statement.{statement}
+use Rattle.records.proofs.is_node.Tie as tie
 
 field-requires : tie.Need-field-requires
 field-requires c κs = search needs
