@@ -16,7 +16,7 @@ use Rattle.records_clauses.specs.Clauses.{with-clause, clause-of}
 use Rattle.records_clauses.proofs.Clause.{clause-grows}
 use Rattle.records.proofs.Step.{steps-then, stop, filled, held, Rest, rest-turn}
 use Rattle.totalizer_clauses.proofs.Growth.{finish-grows}
-use Rattle.totalizer_clauses.proofs.Pairs.{write-turn}
+use Rattle.totalizer_clauses.proofs.PairWalk.{write-turn}
 
 -- The value that a count asks -------------------------------------------------------------------------------------------
 

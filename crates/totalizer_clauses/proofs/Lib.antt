@@ -1,5 +1,5 @@
 -- The laws of pairs and their clauses.
-pub mod Pairs
+pub mod PairWalk
 pub mod Growth
 pub mod Clauses
 pub mod Determined

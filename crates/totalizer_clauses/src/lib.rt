@@ -12,8 +12,8 @@ use records::Marks;
 // The largest number whose double fits a word.
 const MOST_HALF: u32 = u32::MAX / 2;
 
-// Output v less x, not below 0.
-fn less(v: u32, x: u32) -> u32
+// v minus x, 0 where x is the larger.
+fn minus(v: u32, x: u32) -> u32
     ensures { λ r. ⌜ r ≡ v - x ⌝ }
 {
     if v < x {
@@ -51,29 +51,29 @@ fn at_most(x: usize, y: u32) -> usize
 }
 
 // Pairs that add to a value: the first a, and how many.
-pub struct Range {
+pub struct Pairs {
     pub lo: u32,
     pub many: usize,
 }
 
 // The pairs that add to v within the maxima of two sides, the right one halved or not. Constant time.
-pub fn spread(s: &[u32], records: usize, half: bool, l: u32, r: u32, v: u32) -> Range
+pub fn spread(s: &[u32], records: usize, half: bool, l: u32, r: u32, v: u32) -> Pairs
     ensures { λ x. ⌜ Spread (now (s .entry)) records half l r v (x .lo) (x .many) ⌝ }
 {
     let right = records_append::counted(half, records::maximum(s, records, r));
     let left = records::maximum(s, records, l);
-    let lo = less(v, right);
-    Range {
+    let lo = minus(v, right);
+    Pairs {
         lo,
         many: span(lower(v, left), lo),
     }
 }
 
 // How many of the pairs that add to v have a b above `most`. Constant time.
-pub fn further(x: Range, v: u32, most: u32) -> usize
+pub fn further(x: Pairs, v: u32, most: u32) -> usize
     ensures { λ r. ⌜ r ≡ min (x .many) (v - most - x .lo) ⌝ }
 {
-    at_most(x.many, less(less(v, most), x.lo))
+    at_most(x.many, minus(minus(v, most), x.lo))
 }
 
 // The value that a count b asks of its node, where it fits a word. Constant time.

@@ -1,7 +1,7 @@
 -- `spread` counts from what the right maximum leaves of v up to the smaller of v and the left maximum.
 use native.Mathlib.Omega.{arith}
 use Prim.Native.Nat.{_<_}
-use Rattle.totalizer_clauses.proofs.Pairs.{spread-is}
+use Rattle.totalizer_clauses.proofs.PairWalk.{spread-is}
 use borrow.Author.Needs.{needs}
 use Rattle.totalizer_clauses.proofs.spread.Statement.{statement}
 use Rattle.totalizer_clauses.proofs.spread.Tie as tie
@@ -15,8 +15,8 @@ counted-requires c κs = search needs
 maximum-requires-2 : tie.Need-maximum-requires-2
 maximum-requires-2 c κs = search needs
 
-less-requires : tie.Need-less-requires
-less-requires c κs = search needs
+minus-requires : tie.Need-minus-requires
+minus-requires c κs = search needs
 
 lower-requires : tie.Need-lower-requires
 lower-requires c κs = search needs
@@ -27,7 +27,7 @@ span-requires c κs = search needs
 returns : tie.Need-returns
 returns c =
     let maximum = c .before .before .before .before .before .maximum in
-    let i : maximum .result < 4294967296 = omega (arith, maximum .ok) in spread-is _ _ _ _ _ _ _ _ _ _ _ _ i (maximum .ensures) (c .before .before .before .before .counted .ensures) (c .before .before .before .maximum2 .ensures) (c .before .before .less .ensures) (c .before .lower .ensures) (c .span .ensures)
+    let i : maximum .result < 4294967296 = omega (arith, maximum .ok) in spread-is _ _ _ _ _ _ _ _ _ _ _ _ i (maximum .ensures) (c .before .before .before .before .counted .ensures) (c .before .before .before .maximum2 .ensures) (c .before .before .minus .ensures) (c .before .lower .ensures) (c .span .ensures)
 
 pub spread-spec : {M : Type 1} → statement M
 spread-spec =
@@ -36,7 +36,7 @@ spread-spec =
     maximum-requires
     counted-requires
     maximum-requires-2
-    less-requires
+    minus-requires
     lower-requires
     span-requires
     returns)

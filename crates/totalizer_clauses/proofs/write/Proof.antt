@@ -9,7 +9,7 @@ use Rattle.rules.specs.Records.{literal-word}
 use Rattle.rules.specs.Totalizer.{asks, pairs-from, write}
 use Rattle.records.specs.Carries.{st}
 use Rattle.records.proofs.Step.{Rest, rest-start, rest-end}
-use Rattle.totalizer_clauses.proofs.Pairs.{asks-later, write-end}
+use Rattle.totalizer_clauses.proofs.PairWalk.{asks-later, write-end}
 use Rattle.totalizer_clauses.proofs.Clauses.{clauses-turn}
 use Rattle.totalizer_clauses.proofs.write.Statement.{statement}
 use Rattle.totalizer_clauses.proofs.write.Tie as tie
