@@ -101,8 +101,9 @@ tweedpillar_value tweedpillar_next_precision(
 tweedpillar_value tweedpillar_is_max_precision(
     tweedpillar_state s, const uint32_t *store, size_t store_len, const int32_t *clauses, size_t clauses_len);
 
-/* Encodes what enforce needs for the bounds lo to end - 1, in units of the built divisor: the first build or a refinement
- * where one is due, then the outputs. Refuses 12, 6, then (unless the range is empty or there are under two inputs, which
+/* Encodes what enforce needs for the bounds lo to end - 1: the first build or a refinement where one is due, then the
+ * outputs. The range counts in units of the built divisor, as it is then, and is never divided: while the set divisor is
+ * below the built one, a bound u of enforce needs u times set over built, rounded down. Refuses 12, 6, then (unless the range is empty or there are under two inputs, which
  * is accepted with nothing done) 10, 7.
  * Where it builds, refines or defines: the used words of the store are the new records, the clause buffer keeps its used
  * words and has the new clauses after them, each clause its literals, then 0; every word past the new marks of both, and
@@ -113,16 +114,16 @@ tweedpillar_encoded tweedpillar_encode_ub_change(
     tweedpillar_state s, uint32_t *store, size_t store_len, int32_t *clauses, size_t clauses_len,
     uint32_t *work, size_t work_len, uint64_t lo, uint64_t end);
 
-/* The literals to assume so that the clauses hold the weight of the true literals, each divided by the built divisor and
- * rounded down, to at most u, in units of the set divisor. They are the first words of the scratch, as many as the call
- * returns; every other word of the scratch is as it was. *refusal is the refusal
- * number, else 0: 12, 11, 7 (scratch too short). Refused, it returns 0 and the scratch is as it was. */
+/* The literals to assume so that the clauses hold the weights of the true literals, each divided by the set divisor and
+ * rounded down, to a sum of at most u: u counts in units of the set divisor. They are the first words of the scratch, as
+ * many as the call returns; every other word of the scratch is as it was. *refusal is the refusal number, else 0: 12, 11,
+ * 7 (scratch too short). Refused, it returns 0 and the scratch is as it was. */
 size_t tweedpillar_enforce_ub(
     tweedpillar_state s, const uint32_t *store, size_t store_len, const int32_t *clauses, size_t clauses_len,
     int32_t *scratch, size_t scratch_len, uint64_t u, uint32_t *refusal);
 
-/* The largest bound up to u whose answer needs no tare: u itself before the first build, else one less than a multiple of
- * the output weight, or u where that is below one. Refuses 12. Writes nothing. */
+/* The largest bound up to u whose answer needs no tare, both in units of the built divisor: u itself before the first
+ * build, else one less than a multiple of the output weight, or u where that is below one. Refuses 12. Writes nothing. */
 tweedpillar_value tweedpillar_coarse_ub(
     tweedpillar_state s, const uint32_t *store, size_t store_len, const int32_t *clauses, size_t clauses_len, uint64_t u);
 

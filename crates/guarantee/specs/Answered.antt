@@ -28,7 +28,8 @@ use Rattle.guarantee.specs.Meaning.Values.{value}
 use Rattle.guarantee.specs.Counting.Chains.{units, tare-sum, tops}
 use Rattle.guarantee.specs.Counting.Roots.{root-law}
 use Rattle.guarantee.specs.Counting.Tares.{Once, set-tares-above}
-use Rattle.guarantee.specs.Answers.{sum-of, Admits, Counting, admits}
+use Rattle.guarantee.specs.Promise.{sum-of, Admits}
+use Rattle.guarantee.specs.Answers.{Counting, admits}
 use Rattle.guarantee.specs.Histories.Clauses.{once-apart}
 use Rattle.guarantee.specs.Histories.Worlds.{World, Follows}
 

@@ -11,32 +11,19 @@ use lib.ListN.{length}
 use lib.IntN.{ℤ, pos, negℤ, natAbs}
 use lib.Pow.{pow-pos}
 use borrow.Author.Tests.{leb-true, leb-false, lt-leb}
-use Rattle.rules.specs.Records.{join, Record, nodeAt, outputs}
+use Rattle.rules.specs.Records.{Record, nodeAt, outputs}
 use Rattle.rules.specs.Totalizer.{Arena, number-of, literal-of}
 use Rattle.rules.specs.Enforce.{set-tares}
 use Rattle.laws.specs.Lists.Facts.{All, All-map}
 use Rattle.laws.specs.Records.Places.{place}
 use Rattle.laws.specs.WellFormed.Plain.{Sound}
-use Rattle.guarantee.specs.Meaning.Truth.{Assign, Truths, holds, Sat, both, not-both, neg-holds, holds-agree}
+use Rattle.guarantee.specs.Meaning.Truth.{Assign, Truths, holds, Held, both, not-both, neg-holds, holds-agree}
 use Rattle.guarantee.specs.Meaning.Values.{bit, value}
+use Rattle.guarantee.specs.Promise.{sum-of, Admits}
 use Rattle.guarantee.specs.Meaning.Derived.{literal, Claimed, every, Claim, found, output-holds, meant, meant-apart, meant-at, meant-sat}
 use Rattle.guarantee.specs.Meaning.Defining.{Told}
 use Rattle.guarantee.specs.Counting.Chains.{tare-sum}
-use Rattle.guarantee.specs.Counting.Tares.{Held, tares-least, tares-exact, tared, tared-apart, Once, tared-bits, bits-same}
-
--- the weights of the inputs that are true, each divided by d and rounded down, added up
-abbrev pub sum-of : List ℤ → List ℕ → ℕ → Truths → ℕ
-sum-of [] ws d t = 0
-sum-of (x ∷ xs) [] d t = 0
-sum-of (x ∷ xs) (w ∷ ws) d t = w / d * bit (t x) + sum-of xs ws d t
-
--- an assignment of the inputs xs is admitted: some assignment of all variables agrees with it on them and satisfies every clause and every
--- literal of the answer
-pub record Admits (xs : List ℤ) (clauses : List (List ℤ)) (answer : List ℤ) (α : Assign) : Type 0 where
-  pub all : Assign
-  pub agrees : All (λ x. holds all x ≡ holds α x) xs
-  pub satisfies : Sat all clauses
-  pub answered : Held all answer
+use Rattle.guarantee.specs.Counting.Tares.{tares-least, tares-exact, tared, tared-apart, Once, tared-bits, bits-same}
 
 -- what is known of a build: nodes by the rule, clauses that mean its outputs, a root that counts the inputs and tares in units of d
 pub record Counting (xs : List ℤ) (ws : List ℕ) (d : ℕ) (s : Arena) (root : ℕ) (tares : List ℕ) : Type 0 where

@@ -1,4 +1,4 @@
--- Demand 3 over builds: what a bound's answer admits, over any accepted calls, also after more encoding and after refinement.
+-- Demand 3 and Ask 13 over builds: what an answer promises, over any accepted calls, also after more encoding and after refinement.
 use mathlib.Core.Path.{_≡_, refl, sym, ap, ap₂, _∙_, subst}
 use mathlib.Core.Logic.{_≢_, _↔_}
 use mathlib.Core.Bool.{Bool, true, false, cond, _&&_}
@@ -6,7 +6,7 @@ use mathlib.Core.Option.{none, some}
 use mathlib.Core.List.{List, [], _∷_}
 use Prim.Native.Nat.{ℕ, zero, suc, _+_, _*_, _-_, _/_, _%_, _^_, _≤_, _<_}
 use native.Mathlib.Omega.{arith}
-use native.Mathlib.Nat.{zero-div, zero-mul, one-mul, mul-one, mul-comm, suc-mul, div-add-mod', mod-lt, div-mul-le-self, div-one, mul-div-cancel, mul-pos, mul-le-mul-left, mul-suc}
+use native.Mathlib.Nat.{zero-div, zero-mul, one-mul, mul-one, mul-comm, suc-mul, div-add-mod', mod-lt, div-mul-le-self, div-one, mul-div-cancel, mul-pos, mul-le-mul-left, mul-suc, div-div-eq-div-mul}
 use lib.Dec.{eqb, leb}
 use lib.ListN.{length}
 use lib.IntN.{ℤ, pos, negℤ}
@@ -29,7 +29,8 @@ use Rattle.guarantee.specs.Meaning.Truth.{Assign, Truths, holds}
 use Rattle.guarantee.specs.Meaning.Values.{value, value-all}
 use Rattle.guarantee.specs.Counting.Chains.{tare-sum, tare-all}
 use Rattle.guarantee.specs.Counting.Queues.{waited, waited-none}
-use Rattle.guarantee.specs.Answers.{sum-of, Admits, Counting, bound-law}
+use Rattle.guarantee.specs.Promise.{sum-of, Admits, Promised}
+use Rattle.guarantee.specs.Answers.{Counting, bound-law}
 use Rattle.guarantee.specs.Histories.Worlds.{Leads, World, Follows}
 use Rattle.guarantee.specs.Histories.Reached.{started-world, leads-world, leads-follows}
 use Rattle.guarantee.specs.Answered.{counting, asked, Enforced, enforced, nothing-some, none-some, two-enforce, later-admits}
@@ -38,15 +39,15 @@ self-div : (k : ℕ) → k ≢ 0 → k / k ≡ 1
 self-div zero h = absurd (h refl)
 self-div (suc k) h = ap (λ (m : ℕ). m / suc k) (sym (one-mul (suc k))) ∙ mul-div-cancel 1 (omega arith)
 
+not-zero : (k : ℕ) → k ≢ 0 → 1 ≤ k
+not-zero zero h = absurd (h refl)
+not-zero (suc k) h = omega arith
+
 -- the finer divisor goes into the coarser one
 scale-is : (b c : Build) (f : Follows b c) → b .built / c .built ≡ 2 ^ length (f .front)
 scale-is b c f =
     let positive : 1 ≤ c .built = not-zero (c .built) (f .still-built) in
     ap (λ (k : ℕ). k / c .built) (sym (f .scale)) ∙ mul-div-cancel (2 ^ length (f .front)) positive
-  where
-    not-zero : (k : ℕ) → k ≢ 0 → 1 ≤ k
-    not-zero zero h = absurd (h refl)
-    not-zero (suc k) h = omega arith
 
 module _ (xs : List ℤ) (ws : List ℕ) (first : ℕ) (store : List ℕ) (accepted : start-refusal xs ws first store ≡ 0) (two : 2 ≤ length xs) (b : Build) (reached : Leads (new-build xs ws first) b) where
   world : World xs ws b
@@ -56,7 +57,7 @@ module _ (xs : List ℤ) (ws : List ℕ) (first : ℕ) (store : List ℕ) (accep
   inputs-two = omega (arith, world .inputs-are)
 
   -- a later built divisor goes into the earlier one
-  pub later-divides : (c : Build) → Leads b c → b .built / c .built * c .built ≡ b .built
+  later-divides : (c : Build) → Leads b c → b .built / c .built * c .built ≡ b .built
   later-divides c later = go (eqb (b .built) 0) refl
     where
       go : (t : Bool) → eqb (b .built) 0 ≡ t → b .built / c .built * c .built ≡ b .built
@@ -69,7 +70,7 @@ module _ (xs : List ℤ) (ws : List ℕ) (first : ℕ) (store : List ℕ) (accep
 
   -- Ask 13 of the change requests, its second sentence: an answer for u, asked as q = u divided by built over set divisor, admits in any later
   -- world at divisor d' the loads whose sum at d' is at most (D/d')(q + 1) - 1
-  pub answer-later : (u : ℕ) (l : ℤ) (ls : List ℤ) → enforce b u ≡ some (l ∷ ls) → (c : Build) → Leads b c → (α : Assign) →
+  answer-later : (u : ℕ) (l : ℤ) (ls : List ℤ) → enforce b u ≡ some (l ∷ ls) → (c : Build) → Leads b c → (α : Assign) →
       Admits xs (c .arena .clauses) (l ∷ ls) α ↔ (sum-of xs ws (c .built) (holds α) ≤ b .built / c .built * suc (asked b u) - 1)
   answer-later u l ls e c later α =
       let en : Enforced b u (l ∷ ls) = enforced b u l ls inputs-two e in
@@ -79,17 +80,6 @@ module _ (xs : List ℤ) (ws : List ℕ) (first : ℕ) (store : List ℕ) (accep
       let some-more : 1 ≤ 2 ^ length (f .front) * suc (asked b u) = mul-pos (pow-pos (length (f .front))) (omega arith) in
       (λ h. omega (arith, main .0 h), λ h. main .1 (omega arith))
 
-  -- Demand 3, a non-empty answer for u given while the set divisor equals the built divisor D: with all clauses of any later world, at divisor
-  -- d, it admits exactly the input assignments whose weights, each divided by d and rounded down, sum to at most (D/d)(u + 1) - 1
-  pub demand3 : (u : ℕ) (l : ℤ) (ls : List ℤ) → enforce b u ≡ some (l ∷ ls) → b .set ≡ b .built → (c : Build) → Leads b c → (α : Assign) →
-      Admits xs (c .arena .clauses) (l ∷ ls) α ↔ (sum-of xs ws (c .built) (holds α) ≤ b .built / c .built * suc u - 1)
-  demand3 u l ls e same c later α =
-      let en : Enforced b u (l ∷ ls) = enforced b u l ls inputs-two e in
-      subst (λ (q : ℕ). Admits xs (c .arena .clauses) (l ∷ ls) α ↔ (sum-of xs ws (c .built) (holds α) ≤ b .built / c .built * suc q - 1)) (undivided (en .is-built)) (answer-later u l ls e c later α)
-    where
-      undivided : b .built ≢ 0 → asked b u ≡ u
-      undivided n = ap (λ (m : ℕ). u / (b .built / m)) same ∙ (ap (λ (m : ℕ). u / m) (self-div (b .built) n) ∙ div-one u)
-
 -- weights undivided
 sum-one : (xs : List ℤ) (ws : List ℕ) → length xs ≡ length ws → sum-of xs ws 1 (λ x. true) ≡ total ws
 unfolding total
@@ -98,45 +88,48 @@ sum-one [] (w ∷ ws) e = absurd (omega arith)
 sum-one (x ∷ xs) [] e = absurd (omega arith)
 sum-one (x ∷ xs) (w ∷ ws) e = ap₂ _+_ (mul-one (w / 1) ∙ div-one w) (sum-one xs ws (omega arith))
 
+-- the built divisor is 2^j times the set one
+ratio : (b : Build) → Formed b → b .built ≢ 0 → (j : ℕ) × (top-bit (b .set) + j ≡ top-bit (b .built)) × (2 ^ j * b .set ≡ b .built) × (b .built / b .set ≡ 2 ^ j)
+ratio b f n = (j, up, scale, ap (λ (k : ℕ). k / b .set) (sym scale) ∙ mul-div-cancel (2 ^ j) (omega (arith, pow-pos p, f .set-power)))
+  where
+    p : ℕ
+    p = top-bit (b .set)
+
+    j : ℕ
+    j = top-bit (b .built) - p
+
+    up : p + j ≡ top-bit (b .built)
+    up = omega (arith, top-bit-least p (b .built) (omega (arith, f .set-power, f .if-built n .coarser)))
+
+    scale : 2 ^ j * b .set ≡ b .built
+    scale =
+        ap (λ (k : ℕ). 2 ^ j * k) (f .set-power) ∙ (mul-comm (2 ^ j) (2 ^ p) ∙ (sym (pow-add 2 p j) ∙ (ap (λ (k : ℕ). 2 ^ k) up ∙ sym (f .if-built n .power))))
+
+-- u over built over set divisor is u times the set one over the built one
+asked-is : (xs : List ℤ) (ws : List ℕ) (b : Build) → World xs ws b → b .built ≢ 0 → (u : ℕ) → asked b u ≡ u * b .set / b .built
+asked-is xs ws b w n u =
+    let (j, up, scale, is) = ratio b (w .formed) n in
+    let positive : 1 ≤ b .set = omega (arith, pow-pos (top-bit (b .set)), w .formed .set-power) in
+    ap (λ (k : ℕ). u / k) is ∙ sym
+    (ap (λ (k : ℕ). u * b .set / k) (sym scale ∙ mul-comm (2 ^ j) (b .set)) ∙
+    (sym (div-div-eq-div-mul (u * b .set) (b .set) (2 ^ j)) ∙ ap (λ (k : ℕ). k / 2 ^ j) (mul-div-cancel u positive)))
+
 -- what waits does not reach the set divisor, so the weights at it are those at the built one, shifted
 settled-sum : (xs : List ℤ) (ws : List ℕ) (b : Build) → World xs ws b → (n : b .built ≢ 0) → largest (b .queue) < b .set → (t : Truths) →
     (sum-of xs ws (b .set) t ≡ b .built / b .set * sum-of xs ws (b .built) t) × (1 ≤ b .built / b .set)
 settled-sum xs ws b w n low t =
-    (ap (λ (d : ℕ). sum-of xs ws d t) set-is ∙ (w .if-built n .rest j p t up ∙ (omega (arith, none) ∙ ap (λ (k : ℕ). k * sum-of xs ws (b .built) t) (sym ratio))), subst (λ (k : ℕ). 1 ≤ k) (sym ratio) (pow-pos j))
-  where
-    f : Formed b
-    f = w .formed
-
-    p : ℕ
-    p = top-bit (b .set)
-
-    e : ℕ
-    e = top-bit (b .built)
-
-    j : ℕ
-    j = e - p
-
-    set-is : b .set ≡ 2 ^ p
-    set-is = f .set-power
-
-    p-low : p ≤ e
-    p-low = top-bit-least p (b .built) (omega (arith, set-is, f .if-built n .coarser))
-
-    up : p + j ≡ e
-    up = omega (arith, p-low)
-
-    none : waited (λ i. value (nodeAt (b .arena .records)) t i) (2 ^ p) (b .queue) ≡ 0
-    none = waited-none (λ i. value (nodeAt (b .arena .records)) t i) (2 ^ p) (b .queue) (All-map (λ q h. omega (arith, low, set-is)) (b .queue) (largest-all (b .queue) (largest (b .queue)) (omega arith)))
-
-    ratio : b .built / b .set ≡ 2 ^ j
-    ratio =
-        ap₂ (λ (x y : ℕ). x / y) (f .if-built n .power ∙ (ap (λ (k : ℕ). 2 ^ k) (sym up) ∙ (pow-add 2 p j ∙ mul-comm (2 ^ p) (2 ^ j)))) set-is ∙
-        mul-div-cancel (2 ^ j) (pow-pos p)
+    let p : ℕ = top-bit (b .set) in
+    let (j, up, scale, is) = ratio b (w .formed) n in
+    let set-is : b .set ≡ 2 ^ p = w .formed .set-power in
+    let none : waited (λ i. value (nodeAt (b .arena .records)) t i) (2 ^ p) (b .queue) ≡ 0 =
+    waited-none (λ i. value (nodeAt (b .arena .records)) t i) (2 ^ p) (b .queue)
+    (All-map (λ q h. omega (arith, low, set-is)) (b .queue) (largest-all (b .queue) (largest (b .queue)) (omega arith))) in
+    (ap (λ (d : ℕ). sum-of xs ws d t) set-is ∙ (w .if-built n .rest j p t up ∙ (omega (arith, none) ∙ ap (λ (k : ℕ). k * sum-of xs ws (b .built) t) (sym is))), subst (λ (k : ℕ). 1 ≤ k) (sym is) (pow-pos j))
 
 module _ (xs : List ℤ) (ws : List ℕ) (first : ℕ) (store : List ℕ) (accepted : start-refusal xs ws first store ≡ 0) (two : 2 ≤ length xs) (b : Build) (reached : Leads (new-build xs ws first) b) where
   -- Ask 13, its first sentence: a finer question to a coarser build. The answer admits exactly the loads whose weights, divided by the set
   -- divisor and rounded down, sum to at most u; so it does in any later world, until a refinement
-  pub finer-question : (u : ℕ) (l : ℤ) (ls : List ℤ) → enforce b u ≡ some (l ∷ ls) → (c : Build) → Leads b c → c .built ≡ b .built → (α : Assign) →
+  finer-question : (u : ℕ) (l : ℤ) (ls : List ℤ) → enforce b u ≡ some (l ∷ ls) → (c : Build) → Leads b c → c .built ≡ b .built → (α : Assign) →
       Admits xs (c .arena .clauses) (l ∷ ls) α ↔ (sum-of xs ws (b .set) (holds α) ≤ u)
   finer-question u l ls e c later same α =
       let w : World xs ws b = world xs ws first store accepted two b reached in
@@ -160,16 +153,25 @@ module _ (xs : List ℤ) (ws : List ℕ) (first : ℕ) (store : List ℕ) (accep
               let more : k * suc (u / k) ≤ k * s = mul-le-mul-left k up in
               absurd (omega (arith, more, mul-suc k (u / k), mul-comm k (u / k), div-add-mod' u k, mod-lt u h))
 
-  -- Demand 3, its first sentence: while the built divisor stays D, exactly the sums at D up to u
-  pub demand3-here : (u : ℕ) (l : ℤ) (ls : List ℤ) → enforce b u ≡ some (l ∷ ls) → b .set ≡ b .built → (c : Build) → Leads b c → c .built ≡ b .built → (α : Assign) →
-      Admits xs (c .arena .clauses) (l ∷ ls) α ↔ (sum-of xs ws (b .built) (holds α) ≤ u)
-  demand3-here u l ls e same c later kept α =
-      subst (λ (d : ℕ). Admits xs (c .arena .clauses) (l ∷ ls) α ↔ (sum-of xs ws d (holds α) ≤ u)) same (finer-question u l ls e c later kept α)
+  -- a non-empty answer for u, in any later world
+  pub promised : (u : ℕ) (l : ℤ) (ls : List ℤ) → enforce b u ≡ some (l ∷ ls) → (c : Build) → Leads b c →
+      Promised xs ws (b .set) (b .built) u (l ∷ ls) (c .built) (c .arena .clauses)
+  promised u l ls e c later =
+      let w : World xs ws b = world xs ws first store accepted two b reached in
+      let n : b .built ≢ 0 = enforced b u l ls (inputs-two xs ws first store accepted two b reached) e .is-built in
+      record {
+        is-built = not-zero (b .built) n;
+        divides = later-divides xs ws first store accepted two b reached c later;
+        admits = λ α.
+            subst (λ (q : ℕ). Admits xs (c .arena .clauses) (l ∷ ls) α ↔ (sum-of xs ws (c .built) (holds α) ≤ b .built / c .built * suc q - 1)) (asked-is xs ws b w n u)
+            (answer-later xs ws first store accepted two b reached u l ls e c later α);
+        unrefined = finer-question u l ls e c later;
+      }
 
   -- Demand 3, an empty answer comes only if all inputs together, divided by the set divisor, stay within u
-  pub demand3-empty : (u : ℕ) → enforce b u ≡ some [] → sum-of xs ws (b .set) (λ x. true) ≤ u
+  pub promised-empty : (u : ℕ) → enforce b u ≡ some [] → sum-of xs ws (b .set) (λ x. true) ≤ u
   unfolding built-answer root-answer output-answer unbuilt output-weight root-node
-  demand3-empty u e = first-test (leb (b .sum) u) refl (eqb (b .set) 1) refl (sym (two-enforce b u (inputs-two xs ws first store accepted two b reached)) ∙ e)
+  promised-empty u e = first-test (leb (b .sum) u) refl (eqb (b .set) 1) refl (sym (two-enforce b u (inputs-two xs ws first store accepted two b reached)) ∙ e)
     where
       w : World xs ws b
       w = world xs ws first store accepted two b reached

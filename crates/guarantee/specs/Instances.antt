@@ -1,103 +1,98 @@
--- Demand 3 at document 01's worked cases, computed, so its hypotheses can be met.
+-- The promise of an answer at document 01's worked cases and at a finer question, computed over words, so its hypotheses can be met.
 use mathlib.Core.Path.{refl}
 use mathlib.Core.Logic.{_↔_}
 use mathlib.Core.Bool.{true}
 use mathlib.Core.List.{List, [], _∷_}
-use Prim.Native.Nat.{ℕ, _-_, _≤_}
+use Prim.Native.Nat.{ℕ, _*_, _≤_}
 use lib.Dec.{lit≤}
 use lib.ListN.{replicate}
 use lib.IntN.{ℤ, pos, negsuc}
-use Rattle.rules.specs.Build.{Build}
-use Rattle.rules.specs.Start.{start-refusal, new-build}
-use Rattle.rules.specs.Encode.{encode, nothing-asked, divisor-above}
-use Rattle.rules.specs.Enforce.{enforce, enforce-ub}
-use Rattle.rules.specs.Numbers.{divisor-of}
-use Rattle.rules.specs.Refusals.{divisor-unlawful}
-use Rattle.rules.specs.Precision.{divisor-coarser}
-use Rattle.preserve.specs.Sets.{set-to}
+use Rattle.rules.specs.Start.{start-refusal}
+use Rattle.rules.specs.Enforce.{enforce-ub}
 use Rattle.guarantee.specs.Meaning.Truth.{Assign, holds}
-use Rattle.guarantee.specs.Answers.{sum-of, Admits}
-use Rattle.guarantee.specs.Histories.Worlds.{Leads, here, then-set, then-encode}
-use Rattle.guarantee.specs.Demand3.{demand3, demand3-here, demand3-empty}
-use Rattle.guarantee.specs.Calls.{Memory, started, set-call, encode-call, lend-anew, none-yet, next-set, next-encode, next-lend, clauses-in}
-use Rattle.guarantee.specs.Admitted.{demand3-words, demand3-exactly}
+use Rattle.guarantee.specs.Promise.{sum-of, Admits}
+use Rattle.guarantee.specs.Calls.{Memory, started, set-call, encode-call, lend-anew, Run, none-yet, next-set, next-encode, next-lend, clauses-in}
+use Rattle.guarantee.specs.Admitted.{answer-promise, demand3-words, demand3-exactly}
 
+-- lent words, with 9s in them
+abbrev store : ℕ → List ℕ
+store records = replicate (8 * records) 9
+
+abbrev signed : ℕ → List ℤ
+signed words = replicate words (pos 9)
+
+abbrev work : List ℕ
+work = replicate 16384 9
+
+-- P3: literals 1, 2, 3 with weights 1, 2, 3, first fresh 4, range 2 to 4
 abbrev xs : List ℤ
 xs = pos 1 ∷ pos 2 ∷ pos 3 ∷ []
 
 abbrev ws : List ℕ
 ws = 1 ∷ 2 ∷ 3 ∷ []
 
--- P3: literals 1, 2, 3 with weights 1, 2, 3, first fresh 4, range 2 to 4
-abbrev p3 : Build
-p3 = encode (new-build xs ws 4) 2 4
-
-p3-reached : Leads (new-build xs ws 4) p3
-unfolding new-build encode nothing-asked divisor-above
-p3-reached = then-encode 2 4 here refl (lit≤ tt)
+abbrev p3 : Memory
+p3 = encode-call (started xs ws 4 (store 14) (signed 34)) work 2 4
 
 -- P4: the answer for u = 2, -10 and 4, admits exactly the sums up to 2
-p4-two : (α : Assign) → Admits xs (p3 .arena .clauses) (negsuc 9 ∷ pos 4 ∷ []) α ↔ (sum-of xs ws 1 (holds α) ≤ 2)
-unfolding new-build encode enforce start-refusal
-p4-two α = demand3-here xs ws 4 (replicate 48 0) refl (lit≤ tt) p3 p3-reached 2 (negsuc 9) (pos 4 ∷ []) refl refl p3 here refl α
+p4-two : (α : Assign) → Admits xs (clauses-in p3) (negsuc 9 ∷ pos 4 ∷ []) α ↔ (sum-of xs ws 1 (holds α) ≤ 2)
+unfolding started encode-call enforce-ub start-refusal
+p4-two α =
+    demand3-exactly xs ws 4 (store 14) (signed 34) refl (lit≤ tt) p3 (next-encode work 2 4 none-yet) (signed 2) 2 (negsuc 9) (pos 4 ∷ []) refl refl p3 none-yet refl α
 
 -- and the one for u = 6 is empty, since all together weigh 6
 p4-six : sum-of xs ws 1 (λ x. true) ≤ 6
-unfolding new-build encode enforce start-refusal
-p4-six = demand3-empty xs ws 4 (replicate 48 0) refl (lit≤ tt) p3 p3-reached 6 refl
+unfolding started encode-call enforce-ub start-refusal
+p4-six = answer-promise xs ws 4 (store 14) (signed 34) refl (lit≤ tt) p3 (next-encode work 2 4 none-yet) (signed 2) 6 refl
 
--- P6: weights 9, 15 at divisor 8, output 2 encoded, then refined to 1
+-- P6: weights 9, 15 at divisor 8, output 2 encoded; the used words are lent again in longer slices and refined to 1
 abbrev ys : List ℤ
 ys = pos 1 ∷ pos 2 ∷ []
 
 abbrev vs : List ℕ
 vs = 9 ∷ 15 ∷ []
 
-abbrev p6 : Build
-p6 = encode (set-to (new-build ys vs 3) (divisor-of 8)) 1 2
+abbrev p6 : Memory
+p6 = encode-call (set-call (started ys vs 3 (store 10) (signed 20)) 8) work 1 2
 
-abbrev p6-refined : Build
-p6-refined = encode (set-to p6 (divisor-of 1)) 0 1
-
-p6-reached : Leads (new-build ys vs 3) p6
-unfolding new-build encode set-to nothing-asked divisor-above divisor-of divisor-unlawful divisor-coarser
-p6-reached = then-encode 1 2 (then-set 8 here refl refl) refl (lit≤ tt)
-
-p6-later : Leads p6 p6-refined
-unfolding new-build encode set-to nothing-asked divisor-above divisor-of divisor-unlawful divisor-coarser
-p6-later = then-encode 0 1 (then-set 1 here refl refl) refl (lit≤ tt)
+abbrev p6-refined : Memory
+p6-refined = encode-call (set-call (lend-anew p6 (store 30) (signed 100)) 1) work 0 1
 
 -- the earlier answer for u = 1, -4, after refinement to 1, admits exactly the sums up to 15
-p6-earlier : (α : Assign) → Admits ys (p6-refined .arena .clauses) (negsuc 3 ∷ []) α ↔ (sum-of ys vs 1 (holds α) ≤ 15)
-unfolding new-build encode set-to enforce start-refusal divisor-of
-p6-earlier α = demand3 ys vs 3 (replicate 32 0) refl (lit≤ tt) p6 p6-reached 1 (negsuc 3) [] refl refl p6-refined p6-later α
-
--- P4 over words: 14 records and 34 clause words are lent, with 9s in them
-abbrev p3-started : Memory
-p3-started = started xs ws 4 (replicate 112 9) (replicate 34 (pos 9))
-
-abbrev p3-memory : Memory
-p3-memory = encode-call p3-started (replicate 16384 9) 2 4
-
-p4-words : (α : Assign) → Admits xs (clauses-in p3-memory) (negsuc 9 ∷ pos 4 ∷ []) α ↔ (sum-of xs ws 1 (holds α) ≤ 2)
-unfolding started encode-call enforce-ub start-refusal
-p4-words α =
-    demand3-exactly xs ws 4 (replicate 112 9) (replicate 34 (pos 9)) refl (lit≤ tt) p3-memory (next-encode (replicate 16384 9) 2 4 none-yet)
-    (replicate 2 (pos 9)) 2 (negsuc 9) (pos 4 ∷ []) refl refl p3-memory none-yet refl α
-
--- P6 over words: the used words are lent again in longer slices before the refinement
-abbrev p6-started : Memory
-p6-started = started ys vs 3 (replicate 80 9) (replicate 20 (pos 9))
-
-abbrev p6-memory : Memory
-p6-memory = encode-call (set-call p6-started 8) (replicate 16384 9) 1 2
-
-abbrev p6-later-memory : Memory
-p6-later-memory = encode-call (set-call (lend-anew p6-memory (replicate 300 9) (replicate 100 (pos 9))) 1) (replicate 16384 9) 0 1
-
-p6-words : (α : Assign) → Admits ys (clauses-in p6-later-memory) (negsuc 3 ∷ []) α ↔ (sum-of ys vs 1 (holds α) ≤ 15)
+p6-earlier : (α : Assign) → Admits ys (clauses-in p6-refined) (negsuc 3 ∷ []) α ↔ (sum-of ys vs 1 (holds α) ≤ 15)
 unfolding started set-call encode-call lend-anew enforce-ub start-refusal
-p6-words α =
-    demand3-words ys vs 3 (replicate 80 9) (replicate 20 (pos 9)) refl (lit≤ tt) p6-memory (next-encode (replicate 16384 9) 1 2 (next-set 8 none-yet))
-    (replicate 20 (pos 9)) 1 (negsuc 3) [] refl refl
-    p6-later-memory (next-encode (replicate 16384 9) 0 1 (next-set 1 (next-lend (replicate 300 9) (replicate 100 (pos 9)) none-yet))) α
+p6-earlier α =
+    demand3-words ys vs 3 (store 10) (signed 20) refl (lit≤ tt) p6 (next-encode work 1 2 (next-set 8 none-yet)) (signed 20) 1 (negsuc 3) [] refl refl
+    p6-refined (next-encode work 0 1 (next-set 1 (next-lend (store 30) (signed 100) none-yet))) α
+
+-- Ask 13: weights 8, 16, 24 and 3 built at 8, range 2 to 3, then set to 4, which 3 does not reach
+abbrev zs : List ℤ
+zs = pos 1 ∷ pos 2 ∷ pos 3 ∷ pos 4 ∷ []
+
+abbrev us : List ℕ
+us = 8 ∷ 16 ∷ 24 ∷ 3 ∷ []
+
+abbrev coarse : Memory
+coarse = set-call (encode-call (set-call (started zs us 5 (store 40) (signed 100)) 8) work 2 3) 4
+
+coarse-run : Run (started zs us 5 (store 40) (signed 100)) coarse
+coarse-run = next-set 4 (next-encode work 2 3 (next-set 8 none-yet))
+
+abbrev refined : Memory
+refined = encode-call (set-call coarse 1) work 0 1
+
+-- u = 5 is asked as 2, answered -12 and 5, and admits exactly the loads whose sum at 4 is at most 5
+finer-five : (α : Assign) → Admits zs (clauses-in coarse) (negsuc 11 ∷ pos 5 ∷ []) α ↔ (sum-of zs us 4 (holds α) ≤ 5)
+unfolding started set-call encode-call enforce-ub start-refusal
+finer-five α = answer-promise zs us 5 (store 40) (signed 100) refl (lit≤ tt) coarse coarse-run (signed 20) 5 refl coarse none-yet .unrefined refl α
+
+-- after refinement to 1 that same answer admits exactly the sums up to 23, which is 8 (2 + 1) - 1
+finer-refined : (α : Assign) → Admits zs (clauses-in refined) (negsuc 11 ∷ pos 5 ∷ []) α ↔ (sum-of zs us 1 (holds α) ≤ 23)
+unfolding started set-call encode-call enforce-ub start-refusal
+finer-refined α =
+    answer-promise zs us 5 (store 40) (signed 100) refl (lit≤ tt) coarse coarse-run (signed 20) 5 refl refined (next-encode work 0 1 (next-set 1 none-yet)) .admits α
+
+-- u = 12 is empty: all together, divided by 4, come to 12
+finer-twelve : sum-of zs us 4 (λ x. true) ≤ 12
+unfolding started set-call encode-call enforce-ub start-refusal
+finer-twelve = answer-promise zs us 5 (store 40) (signed 100) refl (lit≤ tt) coarse coarse-run (signed 20) 12 refl

@@ -1,10 +1,11 @@
--- Demand 3: what a bound's answer admits. In the order in which it is read: what clauses mean, what the tree counts, what a refinement
--- keeps, what calls lead to; the answers, the theorem over builds, what each input weighs; calls over lent words, the theorem over them, and
--- the totals that are reported.
+-- What a bound's answer admits. In the order in which it is read: what clauses mean, what the tree counts, what a refinement keeps, what calls
+-- lead to; what an answer promises, and the proof of it over builds; what each input weighs; calls over lent words, the promise over them, the
+-- totals that are reported, and instances.
 pub mod Meaning
 pub mod Counting
 pub mod Refinement
 pub mod Histories
+pub mod Promise
 pub mod Answers
 pub mod Answered
 pub mod Demand3

@@ -25,7 +25,7 @@ use Rattle.guarantee.specs.Meaning.Values.{bit, value}
 use Rattle.guarantee.specs.Counting.Chains.{units, tare-sum, tops, tops-length}
 use Rattle.guarantee.specs.Counting.Queues.{waited}
 use Rattle.guarantee.specs.Counting.Weighing.{values}
-use Rattle.guarantee.specs.Answers.{sum-of}
+use Rattle.guarantee.specs.Promise.{sum-of}
 use Rattle.guarantee.specs.Histories.Worlds.{Leads, World}
 use Rattle.guarantee.specs.Histories.Reached.{started-world, leads-world}
 use Rattle.guarantee.specs.Answered.{counting}

@@ -12,12 +12,9 @@ use lib.IntN.{ℤ, pos}
 use borrow.Author.Tests.{eqb-true, eqb-false, eq-eqb, ne-eqb}
 use Rattle.rules.specs.Enforce.{set-tares}
 use Rattle.laws.specs.Lists.Facts.{All, All-zip, All-append, All-first, All-second}
-use Rattle.guarantee.specs.Meaning.Truth.{Assign, holds, pos-holds}
+use Rattle.guarantee.specs.Meaning.Truth.{Assign, holds, pos-holds, Held}
 use Rattle.guarantee.specs.Meaning.Values.{bit}
 use Rattle.guarantee.specs.Counting.Chains.{tare-sum}
-
-abbrev pub Held : Assign → List ℤ → Type 0
-Held ρ xs = All (λ x. holds ρ x ≡ true) xs
 
 -- where the tares of the set bits of x hold, the tares weigh at least x
 pub tares-least : (ρ : Assign) (ts : List ℕ) (x : ℕ) → x < 2 ^ length ts → Held ρ (set-tares ts x) → x ≤ tare-sum (holds ρ) ts

@@ -27,7 +27,7 @@ use Rattle.guarantee.specs.Counting.Filling.{filled-law}
 use Rattle.guarantee.specs.Counting.Chains.{units, tare-sum, tops}
 use Rattle.guarantee.specs.Counting.Buckets.{Filled, Inside, counted, over-begins, over-all}
 use Rattle.guarantee.specs.Meaning.Keeping.{value-stays}
-use Rattle.guarantee.specs.Answers.{sum-of}
+use Rattle.guarantee.specs.Promise.{sum-of}
 
 -- the value of a build's nodes
 abbrev pub values : Build → Truths → ℕ → ℕ

@@ -25,7 +25,7 @@ use Rattle.guarantee.specs.Meaning.Truth.{Truths}
 use Rattle.guarantee.specs.Meaning.Values.{bit, value, value-leaf}
 use Rattle.guarantee.specs.Meaning.Derived.{every, CompleteAt, Claim}
 use Rattle.guarantee.specs.Counting.Queues.{waited}
-use Rattle.guarantee.specs.Answers.{sum-of}
+use Rattle.guarantee.specs.Promise.{sum-of}
 use Rattle.guarantee.specs.Histories.Worlds.{Leads, here, then-set, then-encode, World, Follows, follows-self, follows-then, encode-world, set-world, set-follows}
 
 leaf-at : (xs : List ℤ) (i : ℕ) → i < length xs → nodeAt (leaves xs) i .kind ≡ leaf (getD xs i (pos 0))

@@ -37,7 +37,7 @@ use Rattle.guarantee.specs.Meaning.Defining.{Told, Grown, grown-nodes, g
 use Rattle.guarantee.specs.Counting.Sums.{Begins, begins-at, begins-outputs}
 use Rattle.guarantee.specs.Counting.Chains.{units, tare-sum, tops}
 use Rattle.guarantee.specs.Counting.Queues.{waited}
-use Rattle.guarantee.specs.Answers.{sum-of}
+use Rattle.guarantee.specs.Promise.{sum-of}
 use Rattle.guarantee.specs.Counting.Weighing.{WeighsUnbuilt, WeighsBuilt, first-begins, first-weighs}
 use Rattle.guarantee.specs.Histories.Clauses.{first-told, outputs-told}
 use Rattle.guarantee.specs.Refinement.Keeps.{patched-weighs, patched-outputs, patched-leaf, merged-told}

@@ -31,6 +31,10 @@ sat ρ (x ∷ xs) = holds ρ x || sat ρ xs
 abbrev pub Sat : Assign → List (List ℤ) → Type 0
 Sat ρ cs = All (λ c. sat ρ c ≡ true) cs
 
+-- all literals hold
+abbrev pub Held : Assign → List ℤ → Type 0
+Held ρ xs = All (λ x. holds ρ x ≡ true) xs
+
 -- x stands in the list
 abbrev pub Member : {A : Type 0} → A → List A → Type 0
 Member x [] = ⊥

@@ -38,7 +38,7 @@ use Rattle.guarantee.specs.Counting.Chains.{units, tare-sum, tops, tops-
 use Rattle.guarantee.specs.Counting.Buckets.{Inside, counted, over-all}
 use Rattle.guarantee.specs.Meaning.Keeping.{value-stays}
 use Rattle.guarantee.specs.Refinement.Patching.{moved}
-use Rattle.guarantee.specs.Answers.{sum-of}
+use Rattle.guarantee.specs.Promise.{sum-of}
 use Rattle.guarantee.specs.Counting.Weighing.{values, WeighsBuilt}
 use Rattle.guarantee.specs.Refinement.Weights.{filled-all, heap-append, lefts, tops-lefts, tops-append, refined-sum}
 
