@@ -1,7 +1,8 @@
 -- Demand 3 and Ask 13 over words, as one promise: any run of calls on lent slices, with the clause words in the buffer read as clauses.
-use mathlib.Core.Path.{_≡_, refl, sym, ap, _∙_, subst}
+use mathlib.Core.Path.{_≡_, sym, ap, _∙_, subst}
 use mathlib.Core.Logic.{_↔_}
 use mathlib.Core.Bool.{true}
+use mathlib.Core.Option.{some}
 use mathlib.Core.List.{List, [], _∷_}
 use Prim.Native.Nat.{ℕ, suc, _*_, _-_, _/_, _≤_}
 use native.Mathlib.Nat.{mul-div-cancel}
@@ -10,7 +11,7 @@ use lib.IntN.{ℤ}
 use Rattle.rules.specs.declared.State.{State}
 use Rattle.rules.specs.Build.{Build, stateOf}
 use Rattle.rules.specs.Start.{start-refusal, new-build}
-use Rattle.rules.specs.Enforce.{enforce-ub}
+use Rattle.rules.specs.Enforce.{enforce, enforce-ub}
 use Rattle.preserve.specs.Starts.{lent}
 use Rattle.guarantee.specs.Meaning.Truth.{Assign, holds}
 use Rattle.guarantee.specs.Promise.{sum-of, Admits, Promised}
@@ -21,7 +22,7 @@ use Rattle.guarantee.specs.Calls.{Memory, started, Run, clauses-in}
 use Rattle.guarantee.specs.Words.Shows.{Shows}
 use Rattle.guarantee.specs.Words.Goes.{Goes, run-goes, start-shows}
 use Rattle.guarantee.specs.Words.Reads.{shows-clauses}
-use Rattle.guarantee.specs.Words.Enforced.{answer-some, answer-empty}
+use Rattle.guarantee.specs.Words.Enforced.{answer-told, answer-accepted}
 
 -- What an answer for u promises that was given in m. An empty one: all inputs together, divided by the set divisor, stay within u. One that is
 -- not: what `Promised` says of any n that calls lead to, with the clauses in its buffer
@@ -54,36 +55,31 @@ module _ (xs : List ℤ) (ws : List ℕ) (first : ℕ) (store : List ℕ) (claus
   unfolding b
   w = leads-world xs ws (new-build xs ws first) (reached .build) begun (reached .leads)
 
-  -- an answer that is not empty
-  some-promise : (scratch : List ℤ) (u : ℕ) (l : ℤ) (ls : List ℤ) → enforce-ub (m .state) (m .store) (m .clauses) scratch u .answer ≡ l ∷ ls → Promises xs ws m u (l ∷ ls)
+  -- an answer that enforce gives over the build
+  promise : (u : ℕ) (answer : List ℤ) → enforce b u ≡ some answer → Promises xs ws m u answer
   unfolding b
-  some-promise scratch u l ls e n later =
+  promise u [] e =
+      subst (λ (d : ℕ). sum-of xs ws d (λ x. true) ≤ u) (sym (state-divisors m b (reached .shows) .0)) (promised-empty xs ws first store accepted-start two b (reached .leads) u e)
+  promise u (l ∷ ls) e = λ n later.
       let g : Goes b n = run-goes xs ws b w m n (reached .shows) later in
       let w′ : World xs ws (g .build) = leads-world xs ws b (g .build) w (g .leads) in
       let (ms, mb) = state-divisors m b (reached .shows) in
       let (ns, nb) = state-divisors n (g .build) (g .shows) in
-      let main = promised xs ws first store accepted-start two b (reached .leads) u l ls (answer-some xs ws b w m (reached .shows) scratch u l ls e) (g .build) (g .leads) in
       subst (λ (cs : List (List ℤ)). Promised xs ws (m .state .set) (m .state .built) u (l ∷ ls) (n .state .built) cs) (sym (shows-clauses xs ws (g .build) w′ n (g .shows)))
       (subst (λ (d : ℕ). Promised xs ws d (m .state .built) u (l ∷ ls) (n .state .built) (g .build .arena .clauses)) (sym ms)
       (subst (λ (d : ℕ). Promised xs ws (b .set) d u (l ∷ ls) (n .state .built) (g .build .arena .clauses)) (sym mb)
-      (subst (λ (d : ℕ). Promised xs ws (b .set) (b .built) u (l ∷ ls) d (g .build .arena .clauses)) (sym nb) main)))
-
-  -- an empty answer
-  none-promise : (scratch : List ℤ) (u : ℕ) → enforce-ub (m .state) (m .store) (m .clauses) scratch u .refusal ≡ 0 →
-      enforce-ub (m .state) (m .store) (m .clauses) scratch u .answer ≡ [] → Promises xs ws m u []
-  unfolding b
-  none-promise scratch u r e =
-      subst (λ (d : ℕ). sum-of xs ws d (λ x. true) ≤ u) (sym (state-divisors m b (reached .shows) .0))
-      (promised-empty xs ws first store accepted-start two b (reached .leads) u (answer-empty xs ws b w m (reached .shows) scratch u r e))
+      (subst (λ (d : ℕ). Promised xs ws (b .set) (b .built) u (l ∷ ls) d (g .build .arena .clauses)) (sym nb)
+      (promised xs ws first store accepted-start two b (reached .leads) u l ls e (g .build) (g .leads)))))
 
   -- What an answer admits: two or more inputs, any calls after an accepted start, and a bound u that enforce does not refuse
   pub answer-promise : (scratch : List ℤ) (u : ℕ) → enforce-ub (m .state) (m .store) (m .clauses) scratch u .refusal ≡ 0 →
       Promises xs ws m u (enforce-ub (m .state) (m .store) (m .clauses) scratch u .answer)
-  answer-promise scratch u r = go (enforce-ub (m .state) (m .store) (m .clauses) scratch u .answer) refl
-    where
-      go : (answer : List ℤ) → enforce-ub (m .state) (m .store) (m .clauses) scratch u .answer ≡ answer → Promises xs ws m u answer
-      go [] e = none-promise scratch u r e
-      go (l ∷ ls) e = some-promise scratch u l ls e
+  unfolding b
+  answer-promise scratch u r = promise u (enforce-ub (m .state) (m .store) (m .clauses) scratch u .answer) (answer-told xs ws b w m (reached .shows) scratch u r)
+
+  -- one that is not empty
+  some-promise : (scratch : List ℤ) (u : ℕ) (l : ℤ) (ls : List ℤ) → enforce-ub (m .state) (m .store) (m .clauses) scratch u .answer ≡ l ∷ ls → Promises xs ws m u (l ∷ ls)
+  some-promise scratch u l ls e = subst (Promises xs ws m u) e (answer-promise scratch u (answer-accepted m scratch u l ls e))
 
   -- Demand 3: a non-empty answer for u given while the set divisor equals the built divisor D admits, with the clauses that stand in the buffer
   -- after any later calls that leave built divisor d, exactly the loads whose sum at d is at most (D/d)(u + 1) - 1

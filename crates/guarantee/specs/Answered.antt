@@ -51,7 +51,8 @@ counting xs ws b w n = record {
     All-map (λ o k. k .apart i (getD xs i (pos 0)) (w .leaves-are i h)) (outputs rs) (w .told .means .claims),
     All-map (λ y (k : All (λ v. v < y) (variables-of (nodeAt rs) (b .inputs))). λ e.
         let low : natAbs (getD xs i (pos 0)) < y = subst (λ (kd : Kind). variable-of kd < y) (w .leaves-are i h)
-        (rising-at (λ m. variable-of (nodeAt rs m .kind) < y) (b .inputs) 0 (All-source (λ v. v < y) (λ (m : ℕ). variable-of (nodeAt rs m .kind)) (rising (b .inputs) 0) k) i (omega arith) (omega (arith, w .inputs-are))) in
+        (rising-at (λ m. variable-of (nodeAt rs m .kind) < y) (b .inputs) 0
+        (All-source (λ v. v < y) (λ (m : ℕ). variable-of (nodeAt rs m .kind)) (rising (b .inputs) 0) k) i (omega arith) (omega (arith, w .inputs-are))) in
         omega arith) (b .tares) (All-second (λ y. All (λ v. v < y) (variables-of (nodeAt rs) (b .inputs))) numbers (b .tares) (f .taken .above-inputs)),
   ));
   tares-once = once-of (b .tares) (λ m. omega (arith, f .taken .once m, occurs-append m numbers (b .tares)));
@@ -135,7 +136,11 @@ enforced b u l ls two e = first (leb (b .sum) u && eqb (b .set) 1) (sym (two-enf
     built : (t : Bool) → eqb (b .built) 0 ≡ t → (d : Bool) → leb (b .set) (largest (b .queue)) ≡ d → cond t none (cond d none (root-answer b q)) ≡ some (l ∷ ls) → Enforced b u (l ∷ ls)
     built true z d y k = absurd (none-some (l ∷ ls) k)
     built false z true y k = absurd (none-some (l ∷ ls) k)
-    built false z false y k = record { is-built = eqb-false (b .built) 0 z; settled = leb-false (b .set) (largest (b .queue)) y; answered = rooted (leb (nodeAt (b .arena .records) (root b) .maximum) (q / w)) k }
+    built false z false y k = record {
+      is-built = eqb-false (b .built) 0 z;
+      settled = leb-false (b .set) (largest (b .queue)) y;
+      answered = rooted (leb (nodeAt (b .arena .records) (root b) .maximum) (q / w)) k;
+    }
 
     first : (t : Bool) → cond t (some []) (built-answer b u) ≡ some (l ∷ ls) → Enforced b u (l ∷ ls)
     first true k = absurd (nothing-some l ls k)
@@ -147,7 +152,8 @@ shifted-law s q w n h =
     let x : ℕ = w - 1 - q % w in
     let e : suc (q / w) * w ≡ suc q + x = omega (arith, suc-mul (q / w) w, div-add-mod' q w, mod-lt q h) in
     let g : suc (q / w) * (2 ^ n * w) ≡ 2 ^ n * suc q + 2 ^ n * x =
-    sym (mul-assoc (suc (q / w)) (2 ^ n) w) ∙ (ap (λ (z : ℕ). z * w) (mul-comm (suc (q / w)) (2 ^ n)) ∙ (mul-assoc (2 ^ n) (suc (q / w)) w ∙ (ap (λ (z : ℕ). 2 ^ n * z) e ∙ mul-add (2 ^ n) (suc q) x))) in
+    sym (mul-assoc (suc (q / w)) (2 ^ n) w) ∙
+    (ap (λ (z : ℕ). z * w) (mul-comm (suc (q / w)) (2 ^ n)) ∙ (mul-assoc (2 ^ n) (suc (q / w)) w ∙ (ap (λ (z : ℕ). 2 ^ n * z) e ∙ mul-add (2 ^ n) (suc q) x))) in
     (λ k. omega arith, λ k. omega arith)
 
 module _ (xs : List ℤ) (ws : List ℕ) (b c : Build) (v : World xs ws b) (v′ : World xs ws c) (f : Follows b c) (q : ℕ) (answer : List ℤ) (a : Answered b q answer) where

@@ -123,8 +123,10 @@ settled-sum xs ws b w n low t =
     let set-is : b .set ≡ 2 ^ p = w .formed .set-power in
     let none : waited (λ i. value (nodeAt (b .arena .records)) t i) (2 ^ p) (b .queue) ≡ 0 =
     waited-none (λ i. value (nodeAt (b .arena .records)) t i) (2 ^ p) (b .queue)
-    (All-map (λ q h. omega (arith, low, set-is)) (b .queue) (largest-all (b .queue) (largest (b .queue)) (omega arith))) in
-    (ap (λ (d : ℕ). sum-of xs ws d t) set-is ∙ (w .if-built n .rest j p t up ∙ (omega (arith, none) ∙ ap (λ (k : ℕ). k * sum-of xs ws (b .built) t) (sym is))), subst (λ (k : ℕ). 1 ≤ k) (sym is) (pow-pos j))
+    (All-map (λ q h. omega (arith, low, set-is)) (b .queue) (largest-all (b .queue) (largest (b .queue)) (omega arith))) in (
+      ap (λ (d : ℕ). sum-of xs ws d t) set-is ∙ (w .if-built n .rest j p t up ∙ (omega (arith, none) ∙ ap (λ (k : ℕ). k * sum-of xs ws (b .built) t) (sym is))),
+      subst (λ (k : ℕ). 1 ≤ k) (sym is) (pow-pos j),
+    )
 
 module _ (xs : List ℤ) (ws : List ℕ) (first : ℕ) (store : List ℕ) (accepted : start-refusal xs ws first store ≡ 0) (two : 2 ≤ length xs) (b : Build) (reached : Leads (new-build xs ws first) b) where
   -- Ask 13, its first sentence: a finer question to a coarser build. The answer admits exactly the loads whose weights, divided by the set
@@ -137,7 +139,8 @@ module _ (xs : List ℤ) (ws : List ℕ) (first : ℕ) (store : List ℕ) (accep
       let k : ℕ = b .built / b .set in
       let s : ℕ = sum-of xs ws (b .built) (holds α) in
       let main : Admits xs (c .arena .clauses) (l ∷ ls) α ↔ (s ≤ b .built / b .built * suc (u / k) - 1) =
-      subst (λ (d : ℕ). Admits xs (c .arena .clauses) (l ∷ ls) α ↔ (sum-of xs ws d (holds α) ≤ b .built / d * suc (u / k) - 1)) same (answer-later xs ws first store accepted two b reached u l ls e c later α) in
+      subst (λ (d : ℕ). Admits xs (c .arena .clauses) (l ∷ ls) α ↔ (sum-of xs ws d (holds α) ≤ b .built / d * suc (u / k) - 1)) same
+      (answer-later xs ws first store accepted two b reached u l ls e c later α) in
       let (is, positive) = settled-sum xs ws b w (en .is-built) (en .settled) (holds α) in
       let one : b .built / b .built * suc (u / k) - 1 ≡ u / k = ap (λ (m : ℕ). m * suc (u / k) - 1) (self-div (b .built) (en .is-built)) ∙ omega (arith, one-mul (suc (u / k))) in
       let law : (s ≤ u / k) ↔ (k * s ≤ u) = bound-div u k s positive in

@@ -74,7 +74,8 @@ unfolding only
 sum-none d x [] ws h = refl
 sum-none d x (y ∷ xs) [] h = refl
 sum-none d x (y ∷ xs) (w ∷ ws) h =
-    let off : eqb (literal-word y) (literal-word x) ≡ false = ne-eqb (literal-word y) (literal-word x) (λ e. omega (arith, h, occurs-here (literal-word x) (literal-word y) (map literal-word xs) (sym e))) in
+    let off : eqb (literal-word y) (literal-word x) ≡ false =
+    ne-eqb (literal-word y) (literal-word x) (λ e. omega (arith, h, occurs-here (literal-word x) (literal-word y) (map literal-word xs) (sym e))) in
     let rest : sum-of xs ws d (only x) ≡ 0 = sum-none d x xs ws (omega (arith, h, occurs-more (literal-word x) (literal-word y) (map literal-word xs))) in
     ap₂ (λ (t : Bool) (s : ℕ). w / d * bit t + s) off rest ∙ omega (arith, mul-zero (w / d))
 

@@ -36,43 +36,48 @@ module _ (xs : List ℤ) (ws : List ℕ) (b : Build) (w : World xs ws b) (m : Me
   told-by : (o : Option (List ℤ)) → enforce (buildOf (m .state) (m .store)) u ≡ o → enforce b u ≡ o
   told-by o e = sym (same-enforce (clause-total b) (clause-mark b) b u) ∙ (ap (λ (x : Build). enforce x u) (sym (shows-read m b s (w .formed))) ∙ e)
 
-  pub answer-some : (l : ℤ) (ls : List ℤ) → enforce-ub (m .state) (m .store) (m .clauses) scratch u .answer ≡ l ∷ ls → enforce b u ≡ some (l ∷ ls)
+  -- an answer that is not refused
+  pub answer-told : enforce-ub (m .state) (m .store) (m .clauses) scratch u .refusal ≡ 0 → enforce b u ≡ some (enforce-ub (m .state) (m .store) (m .clauses) scratch u .answer)
   unfolding enforce-ub enforce-end refused-end
-  answer-some l ls e = go (well-formed (m .state) (m .store) (m .clauses)) (enforce (buildOf (m .state) (m .store)) u) refl e
+  answer-told = go (well-formed (m .state) (m .store) (m .clauses)) (enforce (buildOf (m .state) (m .store)) u) refl
     where
-      nothing : _≡_ {A = List ℤ} [] (l ∷ ls) → ⊥
-      nothing q = let z : _≡_ {A = ℕ} 0 1 = cc in omega arith
+      Told : EnforceEnd → Type 0
+      Told e = e .refusal ≡ 0 → enforce b u ≡ some (e .answer)
 
       room : (short : Bool) (answer : List ℤ) → enforce (buildOf (m .state) (m .store)) u ≡ some answer →
-          (elim short as (λ x. EnforceEnd) [ true ↦ refused-end 7 scratch | false ↦ record { answer = answer; scratch = answer ++ drop (length answer) scratch; refusal = 0 } ]) .answer ≡ l ∷ ls → enforce b u ≡ some (l ∷ ls)
-      room true answer e k = absurd (nothing k)
-      room false answer e k = told-by (some (l ∷ ls)) (e ∙ ap some k)
+          Told (elim short [ true ↦ refused-end 7 scratch | false ↦ record { answer = answer; scratch = answer ++ drop (length answer) scratch; refusal = 0 } ])
+      room true answer e r = absurd (omega arith)
+      room false answer e r = told-by (some answer) e
 
-      ended : (o : Option (List ℤ)) → enforce (buildOf (m .state) (m .store)) u ≡ o → enforce-end o scratch .answer ≡ l ∷ ls → enforce b u ≡ some (l ∷ ls)
-      ended none e k = absurd (nothing k)
-      ended (some answer) e k = room (scratch-short scratch answer) answer e k
+      ended : (o : Option (List ℤ)) → enforce (buildOf (m .state) (m .store)) u ≡ o → Told (enforce-end o scratch)
+      ended none e r = absurd (omega arith)
+      ended (some answer) e r = room (scratch-short scratch answer) answer e r
 
-      go : (t : Bool) (o : Option (List ℤ)) → enforce (buildOf (m .state) (m .store)) u ≡ o →
-          (elim t as (λ x. EnforceEnd) [ true ↦ enforce-end o scratch | false ↦ refused-end 12 scratch ]) .answer ≡ l ∷ ls → enforce b u ≡ some (l ∷ ls)
-      go true o e k = ended o e k
-      go false o e k = absurd (nothing k)
+      go : (t : Bool) (o : Option (List ℤ)) → enforce (buildOf (m .state) (m .store)) u ≡ o → Told (elim t [ true ↦ enforce-end o scratch | false ↦ refused-end 12 scratch ])
+      go true o e r = ended o e r
+      go false o e r = absurd (omega arith)
 
-  pub answer-empty : enforce-ub (m .state) (m .store) (m .clauses) scratch u .refusal ≡ 0 → enforce-ub (m .state) (m .store) (m .clauses) scratch u .answer ≡ [] → enforce b u ≡ some []
-  unfolding enforce-ub enforce-end refused-end
-  answer-empty r e = go (well-formed (m .state) (m .store) (m .clauses)) (enforce (buildOf (m .state) (m .store)) u) refl r e
-    where
-      room : (short : Bool) (answer : List ℤ) → enforce (buildOf (m .state) (m .store)) u ≡ some answer →
-          (elim short as (λ x. EnforceEnd) [ true ↦ refused-end 7 scratch | false ↦ record { answer = answer; scratch = answer ++ drop (length answer) scratch; refusal = 0 } ]) .refusal ≡ 0 →
-          (elim short as (λ x. EnforceEnd) [ true ↦ refused-end 7 scratch | false ↦ record { answer = answer; scratch = answer ++ drop (length answer) scratch; refusal = 0 } ]) .answer ≡ [] → enforce b u ≡ some []
-      room true answer e r k = absurd (omega arith)
-      room false answer e r k = told-by (some []) (e ∙ ap some k)
+-- a refused enforce answers nothing
+pub answer-accepted : (m : Memory) (scratch : List ℤ) (u : ℕ) (l : ℤ) (ls : List ℤ) → enforce-ub (m .state) (m .store) (m .clauses) scratch u .answer ≡ l ∷ ls →
+    enforce-ub (m .state) (m .store) (m .clauses) scratch u .refusal ≡ 0
+unfolding enforce-ub enforce-end refused-end
+answer-accepted m scratch u l ls = go (well-formed (m .state) (m .store) (m .clauses)) (enforce (buildOf (m .state) (m .store)) u)
+  where
+    Accepts : EnforceEnd → Type 0
+    Accepts e = e .answer ≡ l ∷ ls → e .refusal ≡ 0
 
-      ended : (o : Option (List ℤ)) → enforce (buildOf (m .state) (m .store)) u ≡ o → enforce-end o scratch .refusal ≡ 0 → enforce-end o scratch .answer ≡ [] → enforce b u ≡ some []
-      ended none e r k = absurd (omega arith)
-      ended (some answer) e r k = room (scratch-short scratch answer) answer e r k
+    nothing : _≡_ {A = List ℤ} [] (l ∷ ls) → ⊥
+    nothing q = let z : _≡_ {A = ℕ} 0 1 = cc in omega arith
 
-      go : (t : Bool) (o : Option (List ℤ)) → enforce (buildOf (m .state) (m .store)) u ≡ o →
-          (elim t as (λ x. EnforceEnd) [ true ↦ enforce-end o scratch | false ↦ refused-end 12 scratch ]) .refusal ≡ 0 →
-          (elim t as (λ x. EnforceEnd) [ true ↦ enforce-end o scratch | false ↦ refused-end 12 scratch ]) .answer ≡ [] → enforce b u ≡ some []
-      go true o e r k = ended o e r k
-      go false o e r k = absurd (omega arith)
+    room : (short : Bool) (answer : List ℤ) →
+        Accepts (elim short [ true ↦ refused-end 7 scratch | false ↦ record { answer = answer; scratch = answer ++ drop (length answer) scratch; refusal = 0 } ])
+    room true answer k = absurd (nothing k)
+    room false answer k = refl
+
+    ended : (o : Option (List ℤ)) → Accepts (enforce-end o scratch)
+    ended none k = absurd (nothing k)
+    ended (some answer) k = room (scratch-short scratch answer) answer k
+
+    go : (t : Bool) (o : Option (List ℤ)) → Accepts (elim t [ true ↦ enforce-end o scratch | false ↦ refused-end 12 scratch ])
+    go true o k = ended o k
+    go false o k = absurd (nothing k)

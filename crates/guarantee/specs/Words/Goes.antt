@@ -89,14 +89,21 @@ module _ (xs : List ℤ) (ws : List ℕ) (b : Build) (w : World xs ws b) (m : Me
     unfolding fresh-part bare with-arena restructured
     counts = counts-kept (bare b) lo end (s .no-clauses) (s .no-words)
 
-    -- an encode that builds, refines or defines
-    written-shows : (words : List ℕ) (signed : List ℤ) → Shows (record { state = stateOf c; store = imageOf (records c) ++ words; clauses = (take (m .state .words) (m .clauses) ++ clause-words (c .arena .clauses)) ++ signed }) (encode b lo end)
+    -- what an encode that reaches x leaves, where it builds, refines or defines
+    abbrev written : Build → List ℕ → List ℤ → Memory
+    written x words signed = record {
+      state = stateOf x;
+      store = imageOf (records x) ++ words;
+      clauses = (take (m .state .words) (m .clauses) ++ clause-words (x .arena .clauses)) ++ signed;
+    }
+
+    written-shows : (words : List ℕ) (signed : List ℤ) → Shows (written c words signed) (encode b lo end)
     unfolding recounted earlier after with-arena restructured records
     written-shows words signed =
         let cs : List (List ℤ) = b .arena .clauses in
         let e : Build = fresh-part b lo end in
-        subst (λ (x : Build). Shows (record { state = stateOf x; store = imageOf (records x) ++ words; clauses = (take (m .state .words) (m .clauses) ++ clause-words (x .arena .clauses)) ++ signed }) (encode b lo end)) (sym c-is)
-        (subst (λ (y : Build). Shows (record { state = stateOf (recounted (clause-total b) (clause-mark b) e); store = imageOf (records e) ++ words; clauses = (take (m .state .words) (m .clauses) ++ clause-words (e .arena .clauses)) ++ signed }) y) (sym (encode-listed b lo end))
+        subst (λ (x : Build). Shows (written x words signed) (encode b lo end)) (sym c-is)
+        (subst (Shows (written (recounted (clause-total b) (clause-mark b) e) words signed)) (sym (encode-listed b lo end))
         (record {
           state-is = recounted-state b e (s .no-clauses) (s .no-words) (counts .0) (counts .1);
           no-clauses = counts .0;
@@ -104,7 +111,9 @@ module _ (xs : List ℤ) (ws : List ℕ) (b : Build) (w : World xs ws b) (m : Me
           rest = words;
           store-is = refl;
           signed-rest = signed;
-          clauses-is = ap (λ (zs : List ℤ). zs ++ signed) (ap (λ (zs : List ℤ). zs ++ clause-words (e .arena .clauses)) (front-clauses m b s) ∙ sym (words-append cs (e .arena .clauses)));
+          clauses-is =
+              ap (λ (zs : List ℤ). zs ++ signed)
+              (ap (λ (zs : List ℤ). zs ++ clause-words (e .arena .clauses)) (front-clauses m b s) ∙ sym (words-append cs (e .arena .clauses)));
         }))
 
     -- an encode, accepted or refused
