@@ -8,3 +8,5 @@ pub mod Filling
 pub mod Tares
 pub mod Weighing
 pub mod Leaves
+pub mod Halves
+pub mod Lowest

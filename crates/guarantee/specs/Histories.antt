@@ -3,3 +3,4 @@ pub mod Clauses
 pub mod Worlds
 pub mod Reached
 pub mod Numbered
+pub mod Plain

@@ -1,16 +1,18 @@
 -- The promise of an answer at document 01's worked cases and at a finer question, computed over words, so its hypotheses can be met.
-use mathlib.Core.Path.{refl}
+use mathlib.Core.Path.{_≡_, refl}
 use mathlib.Core.Logic.{_↔_}
 use mathlib.Core.Bool.{true}
-use mathlib.Core.List.{List, [], _∷_}
+use mathlib.Core.List.{List, [], _∷_, map}
 use Prim.Native.Nat.{ℕ, _*_, _≤_}
 use lib.Dec.{lit≤}
 use lib.ListN.{replicate}
 use lib.IntN.{ℤ, pos, negsuc}
+use Rattle.rules.specs.Build.{buildOf, output-weight}
 use Rattle.rules.specs.Start.{start-refusal}
 use Rattle.rules.specs.Enforce.{enforce-ub}
 use Rattle.guarantee.specs.Meaning.Truth.{Assign, holds}
 use Rattle.guarantee.specs.Promise.{sum-of, Admits}
+use Rattle.guarantee.specs.Standing.{stands, weight-of}
 use Rattle.guarantee.specs.Calls.{Memory, started, set-call, encode-call, lend-anew, Run, none-yet, next-set, next-encode, next-lend, clauses-in}
 use Rattle.guarantee.specs.Admitted.{answer-promise, demand3-words, demand3-exactly}
 
@@ -33,6 +35,11 @@ ws = 1 ∷ 2 ∷ 3 ∷ []
 
 abbrev p3 : Memory
 p3 = encode-call (started xs ws 4 (store 14) (signed 34)) work 2 4
+
+-- each input weighs its weight, 3 by two buckets
+p3-weights : map (weight-of (buildOf (p3 .state) (p3 .store))) xs ≡ ws
+unfolding started encode-call stands buildOf output-weight
+p3-weights = refl
 
 -- P4: the answer for u = 2, -10 and 4, admits exactly the sums up to 2
 p4-two : (α : Assign) → Admits xs (clauses-in p3) (negsuc 9 ∷ pos 4 ∷ []) α ↔ (sum-of xs ws 1 (holds α) ≤ 2)

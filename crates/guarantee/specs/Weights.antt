@@ -1,6 +1,6 @@
 -- "Counted over all inputs, the powers of the buckets each stands under plus what waits equals the weight sum": after any accepted calls.
 use mathlib.Core.Path.{_≡_, refl, sym, ap, ap₂, _∙_}
-use mathlib.Core.Logic.{_≢_}
+use mathlib.Core.Logic.{_≢_, inl, inr}
 use mathlib.Core.Bool.{Bool, true, false}
 use mathlib.Core.List.{List, [], _∷_, map}
 use Prim.Native.Nat.{ℕ, zero, suc, _+_, _*_, _/_, _^_, _≤_, _<_}
@@ -21,33 +21,16 @@ use Rattle.laws.specs.Lists.Facts.{not-not, All, All-map, All-drop, occurs, occ
 use Rattle.laws.specs.Lists.Counts.{distinct-occurs}
 use Rattle.preserve.specs.Starts.{lent, not-first}
 use Rattle.guarantee.specs.Meaning.Truth.{Truths}
-use Rattle.guarantee.specs.Meaning.Values.{bit, value}
+use Rattle.guarantee.specs.Meaning.Values.{bit}
 use Rattle.guarantee.specs.Counting.Chains.{units, tare-sum, tops, tops-length}
 use Rattle.guarantee.specs.Counting.Queues.{waited}
 use Rattle.guarantee.specs.Counting.Weighing.{values}
 use Rattle.guarantee.specs.Promise.{sum-of}
 use Rattle.guarantee.specs.Histories.Worlds.{Leads, World}
 use Rattle.guarantee.specs.Histories.Reached.{started-world, leads-world}
+use Rattle.guarantee.specs.Histories.Plain.{Plain, leads-plain, new-plain}
 use Rattle.guarantee.specs.Answered.{counting}
-
--- how often the literal x stands under node n: what n counts where x alone is true
-abbrev pub stands : Build → ℤ → ℕ → ℕ
-stands b x n = value (nodeAt (b .arena .records)) (λ y. eqb (literal-word y) (literal-word x)) n
-
--- the powers of the buckets, each times what f counts in it: the first weighs w, each next one half of the one above
-abbrev pub powers : (ℕ → ℕ) → ℕ → List ℕ → ℕ
-powers f w [] = 0
-powers f w (m ∷ ms) = w * f m + powers f (w / 2) ms
-
--- what waits: each weight times what f counts in its node
-abbrev pub waits-of : (ℕ → ℕ) → List Entry → ℕ
-waits-of f es = total (map (λ (e : Entry). e .weight * f (e .node)) es)
-
--- the powers of the buckets that x stands under, the root's being the built divisor times W, and what waits of x
-abbrev pub weight-of : Build → ℤ → ℕ
-weight-of b x =
-    powers (stands b x) (b .built * output-weight b) (tops (nodeAt (b .arena .records)) (some-wait (b .queue)) (b .buckets)) +
-    waits-of (stands b x) (b .queue)
+use Rattle.guarantee.specs.Standing.{powers, waits-of, weight-of, only, weight-values}
 
 powers-units : (f : ℕ → ℕ) (k m : ℕ) (ms : List ℕ) → powers f (k * 2 ^ length ms) (m ∷ ms) ≡ k * units (map f (m ∷ ms))
 powers-units f k m [] = ap (λ (x : ℕ). x * f m + 0) (mul-one k) ∙ (omega arith ∙ ap (λ (x : ℕ). k * (x + 0)) (sym (mul-one (f m))))
@@ -64,13 +47,8 @@ unfolding total
 waits-waited f [] = refl
 waits-waited f (e ∷ es) = ap₂ (λ (x y : ℕ). x * f (e .node) + y) (div-one (e .weight)) (waits-waited f es)
 
--- the truth of x alone
-only : ℤ → Truths
-only x y = eqb (literal-word y) (literal-word x)
-
 -- inputs of which none is x weigh nothing where x alone is true
 sum-none : (d : ℕ) (x : ℤ) (xs : List ℤ) (ws : List ℕ) → occurs (literal-word x) (map literal-word xs) ≡ 0 → sum-of xs ws d (only x) ≡ 0
-unfolding only
 sum-none d x [] ws h = refl
 sum-none d x (y ∷ xs) [] h = refl
 sum-none d x (y ∷ xs) (w ∷ ws) h =
@@ -87,7 +65,6 @@ stands-there (x ∷ xs) (suc i) h = omega (arith, stands-there xs i (omega arith
 -- where input i alone is true, the inputs weigh its weight
 sum-only : (xs : List ℤ) (ws : List ℕ) → length xs ≡ length ws → ((n : ℕ) → occurs n (map literal-word xs) ≤ 1) → (i : ℕ) → i < length xs →
     sum-of xs ws 1 (only (getD xs i (pos 0))) ≡ getD ws i 0
-unfolding only
 sum-only [] ws e once i h = absurd (omega arith)
 sum-only (x ∷ xs) [] e once i h = absurd (omega arith)
 sum-only (x ∷ xs) (w ∷ ws) e once zero h =
@@ -108,7 +85,6 @@ word-apart (pos n) u h = ne-eqb (2 * u) (2 * n) (λ e. h (omega arith))
 word-apart (negsuc n) u h = ne-eqb (2 * u) (2 * suc n + 1) (λ e. omega arith)
 
 tares-none : (x : ℤ) (ts : List ℕ) → All (λ u. natAbs x ≢ u) ts → tare-sum (only x) ts ≡ 0
-unfolding only
 tares-none x [] a = refl
 tares-none x (u ∷ ts) a = ap₂ (λ (t : Bool) (s : ℕ). bit t + 2 * s) (word-apart x u (a .0)) (tares-none x ts (a .1))
 
@@ -126,7 +102,7 @@ inputs-once xs ws first store e =
     let (three, e₃) = not-first 2 (literal-twice xs) _ e₂ in
     distinct-occurs (map literal-word xs) (not-not (distinct (map literal-word xs)) three)
 
-module _ (xs : List ℤ) (ws : List ℕ) (b : Build) (v : World xs ws b) (i : ℕ) (h : i < length xs) (weighs : sum-of xs ws 1 (only (getD xs i (pos 0))) ≡ getD ws i 0) where
+module _ (xs : List ℤ) (ws : List ℕ) (b : Build) (v : World xs ws b) (plain : Plain b) (i : ℕ) (h : i < length xs) (weighs : sum-of xs ws 1 (only (getD xs i (pos 0))) ≡ getD ws i 0) where
   x : ℤ
   x = getD xs i (pos 0)
 
@@ -138,11 +114,12 @@ module _ (xs : List ℤ) (ws : List ℕ) (b : Build) (v : World xs ws b) (i : �
   members = tops (nodeAt (b .arena .records)) (some-wait (b .queue)) (b .buckets)
 
   unbuilt-weighs : b .built ≡ 0 → weight-of b x ≡ getD ws i 0
-  unfolding t x only
+  unfolding t x
   unbuilt-weighs z =
-      let none : powers (stands b x) (b .built * output-weight b) (tops (nodeAt (b .arena .records)) (some-wait (b .queue)) (b .buckets)) ≡ 0 =
-      ap (λ (bs : List ℕ). powers (stands b x) (b .built * output-weight b) (tops (nodeAt (b .arena .records)) (some-wait (b .queue)) bs)) (v .formed .if-unbuilt z .no-bucket) in
-      ap₂ _+_ none (sym (waits-waited (stands b x) (b .queue)) ∙ (sym (v .if-unbuilt z .waits 0 t) ∙ weighs)) ∙ zero-add (getD ws i 0)
+      let none : powers (values b t) (b .built * output-weight b) (tops (nodeAt (b .arena .records)) (some-wait (b .queue)) (b .buckets)) ≡ 0 =
+      ap (λ (bs : List ℕ). powers (values b t) (b .built * output-weight b) (tops (nodeAt (b .arena .records)) (some-wait (b .queue)) bs)) (v .formed .if-unbuilt z .no-bucket) in
+      weight-values b (v .formed) plain x (inr z) ∙
+      (ap₂ _+_ none (sym (waits-waited (values b t) (b .queue)) ∙ (sym (v .if-unbuilt z .waits 0 t) ∙ weighs)) ∙ zero-add (getD ws i 0))
 
   module _ (n : b .built ≢ 0) where
     left : ℕ
@@ -169,14 +146,15 @@ module _ (xs : List ℤ) (ws : List ℕ) (b : Build) (v : World xs ws b) (i : �
         ap (λ (w : ℕ). powers (values b t) w (m ∷ ms)) root ∙ (powers-units (values b t) (b .built * 2 ^ left) m ms ∙ mul-assoc (b .built) (2 ^ left) (units (map (values b t) (m ∷ ms))))
 
     built-weighs : weight-of b x ≡ getD ws i 0
-    unfolding t x only members left
+    unfolding t x members left
     built-weighs =
         let j : ℕ = top-bit (b .built) in
         let tall : length members ≡ length (b .buckets) = tops-length (nodeAt (b .arena .records)) (some-wait (b .queue)) (b .buckets) in
         let under : powers (values b t) (b .built * output-weight b) members ≡ b .built * sum-of xs ws (b .built) t =
         counted members (omega (arith, v .if-built n .left-count)) (omega (arith, v .formed .if-built n .some)) ∙ ap (λ (k : ℕ). b .built * k) own in
-        ap₂ _+_ (under ∙ ap (λ (k : ℕ). k * sum-of xs ws (b .built) t) (v .formed .if-built n .power)) (sym (waits-waited (stands b x) (b .queue))) ∙
-        (sym (v .if-built n .rest j 0 t (omega arith)) ∙ weighs)
+        weight-values b (v .formed) plain x (inl n) ∙
+        (ap₂ _+_ (under ∙ ap (λ (k : ℕ). k * sum-of xs ws (b .built) t) (v .formed .if-built n .power)) (sym (waits-waited (values b t) (b .queue))) ∙
+        (sym (v .if-built n .rest j 0 t (omega arith)) ∙ weighs))
 
   weighed : weight-of b x ≡ getD ws i 0
   weighed = go (eqb (b .built) 0) refl
@@ -196,10 +174,13 @@ module _ (xs : List ℤ) (ws : List ℕ) (first : ℕ) (store : List ℕ) (accep
   v : World xs ws b
   v = leads-world xs ws (new-build xs ws first) b (started-world xs ws first store (lent xs ws first store accepted)) reached
 
+  plain : Plain b
+  plain = leads-plain xs ws (new-build xs ws first) b (started-world xs ws first store (lent xs ws first store accepted)) (new-plain xs ws first) reached
+
   -- for each input, the powers of the buckets that it stands under plus what waits of it is its weight
   pub input-weight : (i : ℕ) → i < length xs → weight-of b (getD xs i (pos 0)) ≡ getD ws i 0
   unfolding x
-  input-weight i h = weighed xs ws b v i h (sum-only xs ws (lent xs ws first store accepted .lengths) (inputs-once xs ws first store accepted) i h)
+  input-weight i h = weighed xs ws b v plain i h (sum-only xs ws (lent xs ws first store accepted .lengths) (inputs-once xs ws first store accepted) i h)
 
   -- counted over all inputs, the powers of the buckets each stands under plus what waits equals the weight sum
   pub weight-sum : total (map (weight-of b) xs) ≡ b .sum

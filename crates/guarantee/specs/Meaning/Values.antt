@@ -48,7 +48,7 @@ module _ (at : ℕ → Node) (place : ℕ → Bool) (sound : Sound at place) whe
   fuel-kind t k k′ ih n dummy e p q = refl
 
   -- any fuel above the height gives the same
-  fuel : (t : Truths) (k k′ n : ℕ) → at n .height < k → at n .height < k′ → value-by at t k n ≡ value-by at t k′ n
+  pub fuel : (t : Truths) (k k′ n : ℕ) → at n .height < k → at n .height < k′ → value-by at t k n ≡ value-by at t k′ n
   unfolding value-by
   fuel t zero k′ n p q = absurd (omega arith)
   fuel t (suc k) zero n p q = absurd (omega arith)
