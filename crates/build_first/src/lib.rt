@@ -10,6 +10,7 @@ ghost use Rattle.records.specs.Carries.{St, st, Fits, Carries};
 ghost use Rattle.build_begin.specs.Named.{Named};
 ghost use Rattle.build_first.specs.Ready.{Ready};
 use build_begin::Structure;
+use build_tower::Plan;
 use records::Marks;
 use rules::State;
 
@@ -29,18 +30,15 @@ pub fn build_structure(
     let p = numbers::top_bit(s.set);
     let k = l - 1 - p;
     let tares = build_arrays::fresh_tares(m.fresh, k as usize);
-    let t = build_tower::tower(
-        store,
-        work,
-        m,
-        h,
-        s.set,
+    let plan = Plan {
+        divisor: s.set,
         tares,
-        k as usize,
-        p as usize,
-        l as usize,
-        k,
-    );
+        many: k as usize,
+        low: p as usize,
+        end: l as usize,
+        taken: k,
+    };
+    let t = build_tower::tower(store, work, m, h, plan);
     let buckets = build_arrays::append_buckets(
         [0; rules::MOST_BUCKETS],
         0,

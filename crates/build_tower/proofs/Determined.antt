@@ -34,11 +34,11 @@ queued-determined κs a x y e f p q = (
 
 pub tower-determined : (κs : Lfts 2) (a : Dens κs tower-kinds.ps) (x y : resT tower-kinds.r κs .Denot) (e f : AtExit (endedOf 2 tower-kinds.ps tower-kinds.r) κs) →
     tower.Pre κs a → tower.Post κs a x e → tower.Post κs a y f →
-    ((c : List ℤ) → largest (line (a .1 .0 .now) (a .1 .1 .1 .0)) < 2 ^ a .1 .1 .1 .1 .1 .1 .1 .1 .0 →
+    ((c : List ℤ) → largest (line (a .1 .0 .now) (a .1 .1 .1 .0)) < 2 ^ a .1 .1 .1 .1 .0 .end →
     Same-made (st (a .0 .now) c (a .1 .1 .0)) (st (e .0 .now) c (x .marks)) (st (f .0 .now) c (y .marks))
     (made-in (e .1 .0 .now) (x .used), line (e .1 .0 .now) (x .head)) (made-in (f .1 .0 .now) (y .used), line (f .1 .0 .now) (y .head))
-    (tower-rule (a .1 .1 .1 .1 .1 .1 .1 .1 .1 .0) (a .1 .1 .1 .1 .0) (a .1 .1 .1 .1 .1 .1 .1 .0) (take (a .1 .1 .1 .1 .1 .1 .0) (a .1 .1 .1 .1 .1 .0))
-    (members-from (a .1 .0 .now) 0 (a .1 .1 .1 .1 .1 .1 .1 .1 .0)) (line (a .1 .0 .now) (a .1 .1 .1 .0)))) ×
+    (tower-rule (a .1 .1 .1 .1 .0 .taken) (a .1 .1 .1 .1 .0 .divisor) (a .1 .1 .1 .1 .0 .low) (take (a .1 .1 .1 .1 .0 .many) (a .1 .1 .1 .1 .0 .tares))
+    (members-from (a .1 .0 .now) 0 (a .1 .1 .1 .1 .0 .end)) (line (a .1 .0 .now) (a .1 .1 .1 .0)))) ×
     (made-in (e .1 .0 .now) (x .used) ≡ made-in (f .1 .0 .now) (y .used) → x .used ≡ y .used) ×
     (line (e .1 .0 .now) (x .head) ≡ line (f .1 .0 .now) (y .head) → x .head ≡ y .head)
 tower-determined κs a x y e f pre p q = (

@@ -22,6 +22,17 @@ pub struct Segment {
     pub used: usize,
 }
 
+// What a tower is built with: the divisor; its tares, and how many there are; its powers, from `low` to `end` - 1; and how many
+// numbers are taken for new tares.
+pub struct Plan {
+    pub divisor: u64,
+    pub tares: [u32; rules::MOST_TARES],
+    pub many: usize,
+    pub low: usize,
+    pub end: usize,
+    pub taken: u32,
+}
+
 // No bucket with a member. At most 20 turns.
 fn clear_counts(work: &mut [u32])
     requires { ⌜ 13312 ≤ length (now work) ⌝ }
@@ -35,32 +46,22 @@ fn clear_counts(work: &mut [u32])
 }
 
 // The waiting records from one place to another as a queue, and no bucket with a member. Each linear in the queue.
-pub fn queued(s: &[u32], work: &mut [u32], from: usize, to: usize) -> usize
+pub fn queued(store: &[u32], work: &mut [u32], from: usize, to: usize) -> usize
     requires { ⌜ (from ≤ to) × (to ≤ from + 256) × (13312 ≤ length (now work)) ⌝ }
-    ensures { λ h. ⌜ ((rs : List Record) (es : List Entry) → Stores (now (s .entry)) to (rs ++ map waiting es) → length rs ≡ from → line (now (work .exit)) h ≡ sort heavier es) × ((k : ℕ) → k < 20 → count-at (now (work .exit)) k ≡ 0) × (length (now (work .exit)) ≡ length (now (work .entry))) × (h ≤ 512) ⌝ }
+    ensures { λ h. ⌜ ((rs : List Record) (es : List Entry) → Stores (now (store .entry)) to (rs ++ map waiting es) → length rs ≡ from → line (now (work .exit)) h ≡ sort heavier es) × ((k : ℕ) → k < 20 → count-at (now (work .exit)) k ≡ 0) × (length (now (work .exit)) ≡ length (now (work .entry))) × (h ≤ 512) ⌝ }
 {
     clear_counts(work);
-    build_queue::enqueue(s, work, from, to)
+    build_queue::enqueue(store, work, from, to)
 }
 
-// The queue at h run while it reaches d, and the buckets of powers p to n - 1 with these tares, after so many numbers were taken.
-// As the queue and the buckets grow.
-pub fn tower(
-    s: &mut [u32],
-    work: &mut [u32],
-    m: Marks,
-    h: usize,
-    d: u64,
-    tares: [u32; rules::MOST_TARES],
-    many: usize,
-    p: usize,
-    n: usize,
-    taken: u32,
-) -> Segment
-    requires { ⌜ Queued (now work) h × (1 ≤ d) × (p ≤ n) × (n ≤ 20) × (many ≤ 19) × (m .fresh + taken ≤ 1000000001 → All (λ t. t < 2147483648) (take many tares)) ⌝ }
-    ensures { λ z. ⌜ ((c : List ℤ) → largest (line (now (work .entry)) h) < 2 ^ n → Makes (st (now (s .entry)) c m) (st (now (s .exit)) c (z .marks)) (made-in (now (work .exit)) (z .used), line (now (work .exit)) (z .head)) (tower taken d p (take many tares) (members-from (now (work .entry)) 0 n) (line (now (work .entry)) h))) × (length (now (work .exit)) ≡ length (now (work .entry))) × (p + z .used ≤ n) × (z .head ≤ 512) ⌝ }
+// The numbers of the new tares taken, the queue at h run while it reaches the divisor, and the buckets made. As the queue and the
+// buckets grow.
+pub fn tower(store: &mut [u32], work: &mut [u32], m: Marks, h: usize, plan: Plan) -> Segment
+    requires { ⌜ Queued (now work) h × (1 ≤ plan .divisor) × (plan .low ≤ plan .end) × (plan .end ≤ 20) × (plan .many ≤ 19) × (m .fresh + plan .taken ≤ 1000000001 → All (λ t. t < 2147483648) (take (plan .many) (plan .tares))) ⌝ }
+    ensures { λ z. ⌜ ((c : List ℤ) → largest (line (now (work .entry)) h) < 2 ^ plan .end → Makes (st (now (store .entry)) c m) (st (now (store .exit)) c (z .marks)) (made-in (now (work .exit)) (z .used), line (now (work .exit)) (z .head))
+        (tower (plan .taken) (plan .divisor) (plan .low) (take (plan .many) (plan .tares)) (members-from (now (work .entry)) 0 (plan .end)) (line (now (work .entry)) h))) × (length (now (work .exit)) ≡ length (now (work .entry))) × (plan .low + z .used ≤ plan .end) × (z .head ≤ 512) ⌝ }
 {
-    let a = records_append::numbers(m, taken);
+    let a = records_append::numbers(m, plan.taken);
     if a.full {
         return Segment {
             marks: a,
@@ -68,9 +69,19 @@ pub fn tower(
             used: 0,
         };
     }
-    let g = build_queue::gather(s, work, a, h, d);
+    let g = build_queue::gather(store, work, a, h, plan.divisor);
     let wait = g.head < build_line::PLACES;
-    let b = build_buckets::buckets_over(s, work, g.marks, wait, tares, many, p, n);
+    let tares = plan.tares;
+    let b = build_buckets::buckets_over(
+        store,
+        work,
+        g.marks,
+        wait,
+        tares,
+        plan.many,
+        plan.low,
+        plan.end,
+    );
     let marks = b.marks;
     Segment {
         marks,

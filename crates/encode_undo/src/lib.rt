@@ -28,14 +28,14 @@ fn copy(from: &[u32], a: usize, to: &mut [u32], b: usize, n: usize)
 }
 
 // The words of each bucket's record to the work words, in order. A copy a bucket, at most 20.
-fn save_buckets(s: &[u32], work: &mut [u32], buckets: [u32; rules::MOST_BUCKETS], used: usize)
-    requires { ⌜ (used ≤ 20) × (2208 ≤ length (now work)) × All (λ b. 8 * b + 8 ≤ length (now s)) (take used buckets) ⌝ }
-    ensures { λ _. ⌜ Saves (now (s .entry)) (now (work .entry)) (now (work .exit)) buckets used ⌝ }
+fn save_buckets(store: &[u32], work: &mut [u32], buckets: [u32; rules::MOST_BUCKETS], used: usize)
+    requires { ⌜ (used ≤ 20) × (2208 ≤ length (now work)) × All (λ b. 8 * b + 8 ≤ length (now store)) (take used buckets) ⌝ }
+    ensures { λ _. ⌜ Saves (now (store .entry)) (now (work .entry)) (now (work .exit)) buckets used ⌝ }
 {
     let mut i: usize = 0;
     while i < used {
         copy(
-            s,
+            store,
             records::WORDS * (buckets[i] as usize),
             work,
             BUCKETS + records::WORDS * i,
@@ -46,16 +46,21 @@ fn save_buckets(s: &[u32], work: &mut [u32], buckets: [u32; rules::MOST_BUCKETS]
 }
 
 // The words of the buckets as they were saved. A copy a bucket, at most 20.
-fn restore_buckets(s: &mut [u32], work: &[u32], buckets: [u32; rules::MOST_BUCKETS], used: usize)
-    requires { ⌜ (used ≤ 20) × (2208 ≤ length (now work)) × All (λ b. 8 * b + 8 ≤ length (now s)) (take used buckets) ⌝ }
-    ensures { λ _. ⌜ Restores (now (s .entry)) (now (s .exit)) (now (work .entry)) buckets used ⌝ }
+fn restore_buckets(
+    store: &mut [u32],
+    work: &[u32],
+    buckets: [u32; rules::MOST_BUCKETS],
+    used: usize,
+)
+    requires { ⌜ (used ≤ 20) × (2208 ≤ length (now work)) × All (λ b. 8 * b + 8 ≤ length (now store)) (take used buckets) ⌝ }
+    ensures { λ _. ⌜ Restores (now (store .entry)) (now (store .exit)) (now (work .entry)) buckets used ⌝ }
 {
     let mut k: usize = 0;
     while k < used {
         copy(
             work,
             BUCKETS + records::WORDS * k,
-            s,
+            store,
             records::WORDS * (buckets[k] as usize),
             records::WORDS,
         );

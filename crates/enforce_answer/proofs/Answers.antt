@@ -16,7 +16,7 @@ use Rattle.rules.specs.Enforce.{set-tares, output-answer, root-answer, built-an
 use Rattle.laws.specs.Records.Words.{literal-word-literal}
 use Rattle.enforce_answer.specs.declared.Answered.{Answered}
 use Rattle.enforce_answer.specs.Ends.{Ended}
-use Rattle.enforce_answer.specs.Has.{Has}
+use Rattle.enforce_answer.specs.Stored.{Stored}
 use Rattle.enforce_answer.proofs.Finish.{ended-empty, ended-refused}
 use Rattle.numbers.proofs.Bits.{power-whole}
 use Rattle.enforce_answer.proofs.Back.{used-length}
@@ -104,7 +104,7 @@ module _ (b : Build) (u w top : ℕ) (weight : w ≡ output-weight b) (at : root
         defined-word z = found ∙ word-none (number-of (b .arena .records) top (u / w + 1)) z
 
 -- what the words have of a build
-module _ (b : Build) (store : List ℕ) (records : ℕ) (h : Has b store records) where
+module _ (b : Build) (store : List ℕ) (records : ℕ) (h : Stored b store records) where
   pub most-is : (top m : ℕ) → m ≡ nodeAt (h .rs) top .maximum → m ≡ nodeAt (b .arena .records) top .maximum
   most-is top m e = e ∙ sym (ap (λ (n : Node). n .maximum) (h .node-is top))
 

@@ -20,12 +20,12 @@ use Rattle.records.specs.Carries.{Stores}
 use Rattle.records_waiting.specs.Read.{Readable}
 use Rattle.enforce_answer.specs.declared.Answered.{Answered}
 use Rattle.enforce_answer.specs.Ends.{Ended}
-use Rattle.enforce_answer.specs.Has.{Has}
+use Rattle.enforce_answer.specs.Stored.{Stored}
 use Rattle.enforce_answer.proofs.First.{node-kept, number-kept}
 use Rattle.enforce_answer.proofs.Answers.{built-none, built-waits, built-root, enforce-within, enforce-none, enforce-one, enforce-more}
 
 module _ (s : State) (store : List ℕ) (h : Readable s store) where
-  has : Has (buildOf s store) store (s .records)
+  has : Stored (buildOf s store) store (s .records)
   unfolding buildOf build-over records
   has = record {
     rs = held s store;
@@ -62,7 +62,7 @@ module _ (s : State) (store : List ℕ) (h : Readable s store) where
       ask-waits l = built-waits (buildOf s store) u c e m (is (held s store) (h .stores)) l
 
       pub ask-root : (top : ℕ) (d : List ℤ) (r : Answered) → m < s .set → top ≡ getD (take (s .«buckets_used») (s .buckets)) 0 0 →
-          ((b : Build) → Has b store (s .records) → b .tares ≡ take (s .«tares_used») (s .tares) → root b ≡ top →
+          ((b : Build) → Stored b store (s .records) → b .tares ≡ take (s .«tares_used») (s .tares) → root b ≡ top →
           Ended (root-answer b (u / (s .built / s .set))) c d r) → Ended (built-answer (buildOf s store) u) c d r
       unfolding buildOf build-over root tares-of buckets-of
       ask-root top d r l t p = built-root (buildOf s store) u c e m (is (held s store) (h .stores)) d r l (p (buildOf s store) has refl (sym t))
@@ -78,7 +78,7 @@ module _ (s : State) (store : List ℕ) (h : Readable s store) where
         ask-none z = enforce-none (buildOf s store) u c t within e z
 
         pub ask-one : (d : List ℤ) (r : Answered) → s .inputs ≡ 1 →
-            ((b : Build) (x : ℤ) → Has b store (s .records) → nodeAt (b .arena .records) 0 .kind ≡ leaf x → Ended (some (one-answer b u)) c d r) →
+            ((b : Build) (x : ℤ) → Stored b store (s .records) → nodeAt (b .arena .records) 0 .kind ≡ leaf x → Ended (some (one-answer b u)) c d r) →
             Ended (enforce (buildOf s store) u) c d r
         unfolding buildOf build-over
         ask-one d r z p =

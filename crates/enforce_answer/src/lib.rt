@@ -15,7 +15,7 @@ ghost use Rattle.records_clauses.specs.Clauses.{buf};
 ghost use Rattle.records_waiting.specs.Read.{Readable};
 ghost use Rattle.enforce_answer.specs.Tares.{tare-step};
 ghost use Rattle.enforce_answer.specs.Ends.{Ended};
-ghost use Rattle.enforce_answer.specs.Has.{Has};
+ghost use Rattle.enforce_answer.specs.Stored.{Stored};
 use rules::MOST_TARES;
 
 // The words of an answer, which are the first of the scratch, and the refusal, 0 where there is none.
@@ -41,9 +41,9 @@ fn set_bits(tares: usize, x: u64) -> usize
 }
 
 // Where the lowest bit is set, the tare in the word before.
-fn put_tare(c: &mut [i32], at: usize, t: u32, x: u64) -> usize
+fn put_tare(scratch: &mut [i32], at: usize, t: u32, x: u64) -> usize
     requires { ⌜ t < 2147483648 ⌝ }
-    ensures { λ r. ⌜ buf (now (c .exit)) r ≡ tare-step (buf (now (c .entry)) at) t x ⌝ }
+    ensures { λ r. ⌜ buf (now (scratch .exit)) r ≡ tare-step (buf (now (scratch .entry)) at) t x ⌝ }
 {
     if x % 2 != 1 {
         return at;
@@ -51,7 +51,7 @@ fn put_tare(c: &mut [i32], at: usize, t: u32, x: u64) -> usize
     if at == 0 {
         return at;
     }
-    numbers::put_signed(c, at - 1, 2 * t);
+    numbers::put_signed(scratch, at - 1, 2 * t);
     at - 1
 }
 
@@ -64,35 +64,41 @@ fn tare(tares: [u32; MOST_TARES], used: usize, i: usize) -> u32
 }
 
 // The tares of the set bits of x, highest power first, in the words before `end`. Linear in the tares.
-fn put_tares(c: &mut [i32], tares: [u32; MOST_TARES], used: usize, x: u64, end: usize)
+fn put_tares(scratch: &mut [i32], tares: [u32; MOST_TARES], used: usize, x: u64, end: usize)
     requires { ⌜ (used ≤ 19) × All (λ t. t < 2147483648) (take used tares) ⌝ }
-    ensures { λ _. ⌜ ((from : ℕ) → end ≡ from + length (set-tares (take used tares) x) → end ≤ length (now (c .entry)) →
-        now (c .exit) ≡ take from (now (c .entry)) ++ (set-tares (take used tares) x ++ drop end (now (c .entry)))) ⌝ }
+    ensures { λ _. ⌜ ((from : ℕ) → end ≡ from + length (set-tares (take used tares) x) → end ≤ length (now (scratch .entry)) →
+        now (scratch .exit) ≡ take from (now (scratch .entry)) ++ (set-tares (take used tares) x ++ drop end (now (scratch .entry)))) ⌝ }
 {
     let mut at = end;
     let mut y = x;
     let mut i: usize = 0;
     while i < used {
-        at = put_tare(c, at, tare(tares, used, i), y);
+        at = put_tare(scratch, at, tare(tares, used, i), y);
         y = y / 2;
         i += 1;
     }
 }
 
 // A literal and the tares of the set bits of x as the answer, or refusal 7. Linear in the tares.
-fn put_answer(c: &mut [i32], w: u32, tares: [u32; MOST_TARES], used: usize, x: u64) -> Answered
+fn put_answer(
+    scratch: &mut [i32],
+    w: u32,
+    tares: [u32; MOST_TARES],
+    used: usize,
+    x: u64,
+) -> Answered
     requires { ⌜ (used ≤ 19) × All (λ t. t < 2147483648) (take used tares) ⌝ }
-    ensures { λ r. ⌜ Ended (some (word-literal w ∷ set-tares (take used tares) x)) (now (c .entry)) (now (c .exit)) r ⌝ }
+    ensures { λ r. ⌜ Ended (some (word-literal w ∷ set-tares (take used tares) x)) (now (scratch .entry)) (now (scratch .exit)) r ⌝ }
 {
     let n = set_bits(used, x) + 1;
-    if c.len() < n {
+    if scratch.len() < n {
         return Answered {
             count: 0,
             refusal: 7,
         };
     }
-    numbers::put_signed(c, 0, w);
-    put_tares(c, tares, used, x, n);
+    numbers::put_signed(scratch, 0, w);
+    put_tares(scratch, tares, used, x, n);
     Answered {
         count: n,
         refusal: 0,
@@ -110,9 +116,9 @@ fn root(buckets: [u32; rules::MOST_BUCKETS], used: u32) -> u32
 }
 
 // The answer of one input. Linear in the records.
-fn one_answer(store: &[u32], records: usize, c: &mut [i32], u: u64) -> Answered
-    ensures { λ r. ⌜ ((b : Build) (x : ℤ) → Has b (now (store .entry)) records → nodeAt (b .arena .records) 0 .kind ≡ leaf x →
-        Ended (some (one-answer b u)) (now (c .entry)) (now (c .exit)) r) ⌝ }
+fn one_answer(store: &[u32], records: usize, scratch: &mut [i32], u: u64) -> Answered
+    ensures { λ r. ⌜ ((b : Build) (x : ℤ) → Stored b (now (store .entry)) records → nodeAt (b .arena .records) 0 .kind ≡ leaf x →
+        Ended (some (one-answer b u)) (now (scratch .entry)) (now (scratch .exit)) r) ⌝ }
 {
     if records_waiting::largest(store, records) as u64 <= u {
         return Answered {
@@ -122,7 +128,7 @@ fn one_answer(store: &[u32], records: usize, c: &mut [i32], u: u64) -> Answered
     }
     let w = numbers::negated(totalizer_find::literal(store, records, 0, 1));
     let none: [u32; MOST_TARES] = [0; MOST_TARES];
-    put_answer(c, w, none, 0, 0)
+    put_answer(scratch, w, none, 0, 0)
 }
 
 // The answer at the root. Linear in the records.
@@ -130,14 +136,14 @@ fn root_answer(
     store: &[u32],
     records: usize,
     top: u32,
-    c: &mut [i32],
+    scratch: &mut [i32],
     tares: [u32; MOST_TARES],
     used: u32,
     u: u64,
 ) -> Answered
     requires { ⌜ (used ≤ 19) × All (λ t. t < 2147483648) (take used tares) ⌝ }
-    ensures { λ r. ⌜ ((b : Build) → Has b (now (store .entry)) records → b .tares ≡ take used tares → root b ≡ top →
-        Ended (root-answer b u) (now (c .entry)) (now (c .exit)) r) ⌝ }
+    ensures { λ r. ⌜ ((b : Build) → Stored b (now (store .entry)) records → b .tares ≡ take used tares → root b ≡ top →
+        Ended (root-answer b u) (now (scratch .entry)) (now (scratch .exit)) r) ⌝ }
 {
     let w = numbers::power(used);
     let j = u / w;
@@ -154,7 +160,13 @@ fn root_answer(
             refusal: 11,
         };
     }
-    put_answer(c, numbers::negated(o), tares, used as usize, w - 1 - u % w)
+    put_answer(
+        scratch,
+        numbers::negated(o),
+        tares,
+        used as usize,
+        w - 1 - u % w,
+    )
 }
 
 // Whether the weights' sum is within the bound and the divisor set is 1. Constant time.
@@ -168,9 +180,9 @@ fn all_within(sum: u64, set: u64, u: u64) -> bool
 }
 
 // The answer by the build. Linear in the records.
-fn built_answer(s: rules::State, store: &[u32], c: &mut [i32], u: u64) -> Answered
+fn built_answer(s: rules::State, store: &[u32], scratch: &mut [i32], u: u64) -> Answered
     requires { ⌜ Readable s (now store) ⌝ }
-    ensures { λ r. ⌜ Ended (built-answer (buildOf s (now (store .entry))) u) (now (c .entry)) (now (c .exit)) r ⌝ }
+    ensures { λ r. ⌜ Ended (built-answer (buildOf s (now (store .entry))) u) (now (scratch .entry)) (now (scratch .exit)) r ⌝ }
 {
     if s.built == 0 {
         return Answered {
@@ -191,7 +203,7 @@ fn built_answer(s: rules::State, store: &[u32], c: &mut [i32], u: u64) -> Answer
         store,
         s.records,
         top,
-        c,
+        scratch,
         tares,
         s.tares_used,
         u / (s.built / s.set),
@@ -199,9 +211,9 @@ fn built_answer(s: rules::State, store: &[u32], c: &mut [i32], u: u64) -> Answer
 }
 
 // What enforce answers for a bound. Linear in the records.
-pub fn answer(s: rules::State, store: &[u32], c: &mut [i32], u: u64) -> Answered
+pub fn answer(s: rules::State, store: &[u32], scratch: &mut [i32], u: u64) -> Answered
     requires { ⌜ Readable s (now store) ⌝ }
-    ensures { λ r. ⌜ Ended (enforce (buildOf s (now (store .entry))) u) (now (c .entry)) (now (c .exit)) r ⌝ }
+    ensures { λ r. ⌜ Ended (enforce (buildOf s (now (store .entry))) u) (now (scratch .entry)) (now (scratch .exit)) r ⌝ }
 {
     if all_within(s.sum, s.set, u) {
         return Answered {
@@ -216,7 +228,7 @@ pub fn answer(s: rules::State, store: &[u32], c: &mut [i32], u: u64) -> Answered
         };
     }
     if s.inputs == 1 {
-        return one_answer(store, s.records, c, u);
+        return one_answer(store, s.records, scratch, u);
     }
-    built_answer(s, store, c, u)
+    built_answer(s, store, scratch, u)
 }

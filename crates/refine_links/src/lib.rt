@@ -36,11 +36,11 @@ fn patched(b: Bucket, below: u32) -> Bucket
 }
 
 // The words of a bucket's record; nothing past the last whole record. Constant time.
-fn put_bucket(s: &mut [u32], n: usize, b: Bucket)
-    ensures { λ _. ⌜ now (s .exit) ≡ put-record (now (s .entry)) n (bucket-words b) ⌝ }
+fn put_bucket(store: &mut [u32], n: usize, b: Bucket)
+    ensures { λ _. ⌜ now (store .exit) ≡ put-record (now (store .entry)) n (bucket-words b) ⌝ }
 {
     records::put_record(
-        s,
+        store,
         n,
         Fields {
             kind: records::JOIN,
@@ -55,15 +55,15 @@ fn put_bucket(s: &mut [u32], n: usize, b: Bucket)
 
 // Bucket b linked, halved, to the one below; false, and nothing written, where its maximum or height does not fit a word.
 // Constant time.
-fn link(s: &mut [u32], records: usize, b: u32, below: u32) -> bool
-    ensures { λ r. ⌜ Links (now (s .entry)) (now (s .exit)) records b below r ⌝ }
+fn link(store: &mut [u32], records: usize, b: u32, below: u32) -> bool
+    ensures { λ r. ⌜ Links (now (store .entry)) (now (store .exit)) records b below r ⌝ }
 {
-    let l = records::left(s, records, b);
-    let half = records_append::counted(true, records::maximum(s, records, below));
-    let maximum = records_append::sum(records::maximum(s, records, l), half);
+    let l = records::left(store, records, b);
+    let half = records_append::counted(true, records::maximum(store, records, below));
+    let maximum = records_append::sum(records::maximum(store, records, l), half);
     let height = records_append::above(
-        records::height(s, records, l),
-        records::height(s, records, below),
+        records::height(store, records, l),
+        records::height(store, records, below),
     );
     if records::MOST_WORD < maximum {
         return false;
@@ -73,32 +73,32 @@ fn link(s: &mut [u32], records: usize, b: u32, below: u32) -> bool
     }
     let renewed = Bucket {
         left: l,
-        right: records::right(s, records, b),
+        right: records::right(store, records, b),
         maximum: maximum as u32,
         height: height as u32,
     };
-    put_bucket(s, b as usize, patched(renewed, below));
+    put_bucket(store, b as usize, patched(renewed, below));
     true
 }
 
 // The used buckets from the last to the first, each linked to the one below it, the last to `below`; false, and stopped, where a
 // maximum or height does not fit a word. A turn a bucket, at most 20.
 pub fn relink(
-    s: &mut [u32],
+    store: &mut [u32],
     records: usize,
     buckets: [u32; rules::MOST_BUCKETS],
     used: usize,
     below: u32,
 ) -> bool
     requires { ⌜ used ≤ 20 ⌝ }
-    ensures { λ r. ⌜ Relinks (now (s .entry)) (now (s .exit)) records (take used buckets) below r ⌝ }
+    ensures { λ r. ⌜ Relinks (now (store .entry)) (now (store .exit)) records (take used buckets) below r ⌝ }
 {
     let mut next = below;
     let mut i = used;
     while 0 < i {
         i -= 1;
         let b = buckets[i];
-        if !link(s, records, b, next) {
+        if !link(store, records, b, next) {
             return false;
         }
         next = b;
@@ -107,29 +107,29 @@ pub fn relink(
 }
 
 // Half the maximum of the right link of bucket b. Constant time.
-fn former_half(s: &[u32], records: usize, b: u32) -> u32
-    ensures { λ r. ⌜ ((rs : List Record) → Stores (now (s .entry)) records rs → r ≡ former-half rs b) ⌝ }
+fn former_half(store: &[u32], records: usize, b: u32) -> u32
+    ensures { λ r. ⌜ ((rs : List Record) → Stores (now (store .entry)) records rs → r ≡ former-half rs b) ⌝ }
 {
-    records::maximum(s, records, records::right(s, records, b)) / 2
+    records::maximum(store, records, records::right(store, records, b)) / 2
 }
 
 // Half the maximum of the right link of each used bucket, before they are linked anew; other slots are 0. A turn a bucket, at
 // most 20.
 pub fn former_halves(
-    s: &[u32],
+    store: &[u32],
     records: usize,
     buckets: [u32; rules::MOST_BUCKETS],
     used: usize,
 ) -> [u32; rules::MOST_BUCKETS]
     requires { ⌜ used ≤ 20 ⌝ }
-    ensures halves { λ r. ⌜ ((rs : List Record) → Stores (now (s .entry)) records rs → take used r ≡ map (former-half rs) (take used buckets)) ⌝ }
+    ensures halves { λ r. ⌜ ((rs : List Record) → Stores (now (store .entry)) records rs → take used r ≡ map (former-half rs) (take used buckets)) ⌝ }
     ensures rest { λ r. ⌜ drop used r ≡ replicate (20 - used) 0 ⌝ }
     ensures length { λ r. ⌜ length r ≡ 20 ⌝ }
 {
     let mut halves: [u32; rules::MOST_BUCKETS] = [0; rules::MOST_BUCKETS];
     let mut i: usize = 0;
     while i < used {
-        halves[i] = former_half(s, records, buckets[i]);
+        halves[i] = former_half(store, records, buckets[i]);
         i += 1;
     }
     halves

@@ -13,50 +13,58 @@ ghost use Rattle.refine_outputs.specs.Old.{extend-each, extend-at};
 use records::Marks;
 
 // The further clauses of record i where it is an output of the node. A find for each output asked for, two for each clause.
-fn extend_record(s: &mut [u32], c: &mut [i32], m: Marks, node: u32, most: u32, i: usize) -> Marks
-    ensures { λ z. ⌜ Steps (st (now (s .entry)) (now (c .entry)) m) (st (now (s .exit)) (now (c .exit)) z) (extend-at node most i) ⌝ }
+fn extend_record(
+    store: &mut [u32],
+    clauses: &mut [i32],
+    m: Marks,
+    node: u32,
+    most: u32,
+    i: usize,
+) -> Marks
+    ensures { λ z. ⌜ Steps (st (now (store .entry)) (now (clauses .entry)) m) (st (now (store .exit)) (now (clauses .exit)) z) (extend-at node most i) ⌝ }
 {
     if m.full {
         return m;
     }
     let n = m.records;
-    if records::field(s, n, i, records::KIND) != records::OUTPUT {
+    if records::field(store, n, i, records::KIND) != records::OUTPUT {
         return m;
     }
-    if records::field(s, n, i, records::NODE) != node {
+    if records::field(store, n, i, records::NODE) != node {
         return m;
     }
-    let v = records::field(s, n, i, records::VALUE);
-    let o = records::field(s, n, i, records::NUMBER);
-    totalizer_define::extend(s, c, m, node, most, v, o)
+    let v = records::field(store, n, i, records::VALUE);
+    let o = records::field(store, n, i, records::NUMBER);
+    totalizer_define::extend(store, clauses, m, node, most, v, o)
 }
 
 // The further clauses of each output of the node among the old records, in record order: those of its pairs whose b exceeds
 // `most`. A pass over the old records.
-pub fn extend_bucket(
-    s: &mut [u32],
-    c: &mut [i32],
+fn extend_bucket(
+    store: &mut [u32],
+    clauses: &mut [i32],
     m: Marks,
     old: usize,
     node: u32,
     most: u32,
 ) -> Marks
-    ensures { λ z. ⌜ ((e : St) (t : Arena) → Carries e (st (now (s .entry)) (now (c .entry)) m) t → old ≤ length (t .records) →
-        Carries e (st (now (s .exit)) (now (c .exit)) z) (extend-each node most (take old (t .records)) t)) ⌝ }
+    ensures { λ z. ⌜ ((e : St) (t : Arena) → Carries e (st (now (store .entry)) (now (clauses .entry)) m) t → old ≤ length (t .records) →
+        Carries e (st (now (store .exit)) (now (clauses .exit)) z) (extend-each node most (take old (t .records)) t)) ⌝ }
 {
     let mut n = m;
     let mut i: usize = 0;
     while i < old {
-        n = extend_record(s, c, n, node, most, i);
+        n = extend_record(store, clauses, n, node, most, i);
         i += 1;
     }
     n
 }
 
-// The same for the used buckets, from the last to the first. A pass over the old records for each bucket, at most 20.
+// The further clauses of the outputs of the used buckets, from the last bucket to the first. A pass over the old records for each
+// bucket, at most 20.
 pub fn extend_buckets(
-    s: &mut [u32],
-    c: &mut [i32],
+    store: &mut [u32],
+    clauses: &mut [i32],
     m: Marks,
     old: usize,
     buckets: [u32; rules::MOST_BUCKETS],
@@ -64,15 +72,15 @@ pub fn extend_buckets(
     halves: [u32; rules::MOST_BUCKETS],
 ) -> Marks
     requires { ⌜ used ≤ 20 ⌝ }
-    ensures { λ z. ⌜ ((e : St) (t : Arena) (before : List Record) → Carries e (st (now (s .entry)) (now (c .entry)) m) t → old ≤ length (t .records) →
+    ensures { λ z. ⌜ ((e : St) (t : Arena) (before : List Record) → Carries e (st (now (store .entry)) (now (clauses .entry)) m) t → old ≤ length (t .records) →
         outputs (take old (t .records)) ≡ outputs before → take used halves ≡ map (former-half before) (take used buckets) →
-        Carries e (st (now (s .exit)) (now (c .exit)) z) (in-turn (extend-bucket before) t (reverse (take used buckets)))) ⌝ }
+        Carries e (st (now (store .exit)) (now (clauses .exit)) z) (in-turn (extend-bucket before) t (reverse (take used buckets)))) ⌝ }
 {
     let mut n = m;
     let mut i = used;
     while 0 < i {
         i -= 1;
-        n = extend_bucket(s, c, n, old, buckets[i], halves[i]);
+        n = extend_bucket(store, clauses, n, old, buckets[i], halves[i]);
     }
     n
 }

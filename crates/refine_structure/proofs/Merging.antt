@@ -34,7 +34,7 @@ use Rattle.build_tower.specs.Rule.{tower}
 use Rattle.build_begin.specs.declared.Structure.{Structure}
 use Rattle.build_begin.specs.Named.{marks-at, Named}
 use Rattle.build_begin.proofs.Begin.{entry, image-is}
-use Rattle.refine_structure.specs.Refined.{added, spare, Spans, renew, Ready, Renews, Refinable, Refines}
+use Rattle.refine_structure.specs.Refined.{added, spare, Spans, renew, Renewable, Renews, Refinable, Refines}
 use Rattle.refine_structure.proofs.Bases.{fits-based}
 use Rattle.refine_structure.proofs.Segments.{finer, after, made, tower-is, merged-is, right, fits-after, merged-tares, merged-buckets, merged-queue}
 
@@ -208,7 +208,7 @@ module _ (s : State) (store : List ℕ) (clauses : List ℤ) (work : List ℕ) (
           (Fits e (x .0) → _≡_ {A = List ℕ × List Entry} (made-in work′ (t .used), line work′ (t .head)) (x .1)))
           reached-is (tw clauses powers .go e (b .arena) begins)
 
-      ready : Ready bs e (st store₁ clauses (t .marks)) (m .records) below (take (s .«buckets_used») halves) (b .arena .records) d (after b f built reach)
+      ready : Renewable bs e (st store₁ clauses (t .marks)) (m .records) below (take (s .«buckets_used») halves) (b .arena .records) d (after b f built reach)
       unfolding buildOf build-over buckets-of
       ready = record {
         carries = towered .0;
@@ -218,7 +218,7 @@ module _ (s : State) (store : List ℕ) (clauses : List ℤ) (work : List ℕ) (
       }
 
       module _ (τ : St) (rn : (s₀ : List ℕ) (m₀ : Marks) (before : List Record) (d : ℕ) (u : Arena) →
-          Ready bs (st s₀ clauses m₀) (st store₁ clauses (t .marks)) (m .records) below (take (s .«buckets_used») halves) before d u →
+          Renewable bs (st s₀ clauses m₀) (st store₁ clauses (t .marks)) (m .records) below (take (s .«buckets_used») halves) before d u →
           Renews bs (st s₀ clauses m₀) τ (renew before bs d u)) where
         renewed : Renews (b .buckets) e τ (merge-structures b .arena)
         unfolding buildOf build-over buckets-of

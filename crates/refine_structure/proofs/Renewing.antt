@@ -26,7 +26,7 @@ use Rattle.refine_links.proofs.Renewing.{relink-length, relink-front}
 use Rattle.refine_links.proofs.Carrying.{relinked-carries, relinked-over}
 use Rattle.refine_outputs.proofs.Extending.{buckets-grow}
 use Rattle.refine_structure.specs.Based.{Based}
-use Rattle.refine_structure.specs.Refined.{renew, Right, Ready, Renews}
+use Rattle.refine_structure.specs.Refined.{renew, Right, Renewable, Renews}
 use Rattle.refine_structure.proofs.Bases.{based-self}
 
 -- past what is laid the words are the same
@@ -35,7 +35,7 @@ unfolding laid
 laid-rest xs s₀ n e = subst (λ (k : ℕ). drop k (xs ++ drop (length xs) s₀) ≡ drop k s₀) e (drop-append-seam xs (drop (length xs) s₀))
 
 module _ (bs : List ℕ) (s₀ : List ℕ) (m₀ : Marks) (s : List ℕ) (c : List ℤ) (m : Marks) (old below : ℕ) (halves : List ℕ) (before : List Record)
-    (d : ℕ) (t : Arena) (r : Ready bs (st s₀ c m₀) (st s c m) old below halves before d t) where
+    (d : ℕ) (t : Arena) (r : Renewable bs (st s₀ c m₀) (st s c m) old below halves before d t) where
   abbrev e : St
   e = st s₀ c m₀
 

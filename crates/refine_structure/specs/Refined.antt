@@ -56,7 +56,7 @@ pub record Right (bs : List ℕ) (old below : ℕ) (halves : List ℕ) (before :
   pub below-is : below ≡ d
 
 -- where t fits it is; and t fits where it does renewed
-pub record Ready (bs : List ℕ) (e σ : St) (old below : ℕ) (halves : List ℕ) (before : List Record) (d : ℕ) (t : Arena) : Type 0 where
+pub record Renewable (bs : List ℕ) (e σ : St) (old below : ℕ) (halves : List ℕ) (before : List Record) (d : ℕ) (t : Arena) : Type 0 where
   pub carries : Carries e σ t
   pub fits : Fits e (renew before bs d t) → Fits e t
   pub right : Fits e t → Right bs old below halves before d t

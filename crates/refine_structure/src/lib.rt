@@ -15,8 +15,9 @@ ghost use Rattle.records.specs.Carries.{st, Makes};
 ghost use Rattle.build_line.specs.Work.{line, members-from, made-in};
 ghost use Rattle.build_queue.specs.Queued.{Queued};
 ghost use Rattle.build_tower.specs.Rule.{tower};
-ghost use Rattle.refine_structure.specs.Refined.{added, spare, Spans, renew, Ready, Renews, Refinable, Refines};
+ghost use Rattle.refine_structure.specs.Refined.{added, spare, Spans, renew, Renewable, Renews, Refinable, Refines};
 use build_begin::Structure;
+use build_tower::Plan;
 use build_tower::Segment;
 use records::Marks;
 use rules::State;
@@ -60,7 +61,7 @@ fn renew(
 ) -> Marks
     requires { ⌜ used ≤ 20 ⌝ }
     ensures { λ z. ⌜ ((s₀ : List ℕ) (m₀ : Marks) (before : List Record) (d : ℕ) (t : Arena) →
-        Ready (take used buckets) (st s₀ (now (clauses .entry)) m₀) (st (now (store .entry)) (now (clauses .entry)) m) old below (take used halves) before d t →
+        Renewable (take used buckets) (st s₀ (now (clauses .entry)) m₀) (st (now (store .entry)) (now (clauses .entry)) m) old below (take used halves) before d t →
         Renews (take used buckets) (st s₀ (now (clauses .entry)) m₀) (st (now (store .exit)) (now (clauses .exit)) z) (renew before (take used buckets) d t)) ⌝ }
 {
     if m.full {
@@ -91,18 +92,15 @@ fn segment(
     let end = numbers::top_bit(s.built) as usize;
     let many = end - p;
     let own = (s.tares_used as usize) + 1 - (s.buckets_used as usize);
-    build_tower::tower(
-        store,
-        work,
-        m,
-        h,
-        s.set,
+    let plan = Plan {
+        divisor: s.set,
         tares,
-        many + own,
-        p,
-        end + own,
-        many as u32,
-    )
+        many: many + own,
+        low: p,
+        end: end + own,
+        taken: many as u32,
+    };
+    build_tower::tower(store, work, m, h, plan)
 }
 
 // The refinement of a build whose queue is the line at h of the work words. As the tower of the new buckets, then a pass over the

@@ -37,39 +37,59 @@ fresh-tares-requires c κs =
     let pre = c .before .before .before .before .before .before .pre in
     (omega (arith, power-few (args .s) (args .store .now) (args .work .now) (args .h) (pre .0) _ _ _ (weight .ensures) (digits .ensures .0) (c .top-bit .ensures .0)), fresh-room (args .s) (args .store .now) (args .work .now) (args .h) (pre .0) _ _ _ (weight .ensures) (digits .ensures .0) (c .top-bit .ensures .0) _ (pre .1))
 
-cast-tower : tie.Need-cast-tower
-cast-tower c = search needs
+cast-append-buckets : tie.Need-cast-append-buckets
+cast-append-buckets c = search needs
 
-cast-tower-2 : tie.Need-cast-tower-2
-cast-tower-2 c = search needs
+cast-t20 : tie.Need-cast-t20
+cast-t20 c = search needs
 
-cast-tower-3 : tie.Need-cast-tower-3
-cast-tower-3 c = search needs
+cast-t21 : tie.Need-cast-t21
+cast-t21 c = search needs
 
 tower-requires : tie.Need-tower-requires
 tower-requires c κs =
-    let args = c .before .before .before .before .before .before .before .before .before .args in
-    tower-ready (args .s) (args .store .now) (args .work .now) (args .h) (c .before .before .before .before .before .before .before .before .before .pre .0) _ _ _ (c .before .before .before .before .before .weight .ensures) (c .before .before .before .before .digits .ensures .0) (c .before .before .before .top-bit .ensures .0) _ _ (c .before .before .fresh-tares .ensures)
+    let c₁ = c .before .before in
+    let c₂ = c₁ .before in
+    let c₃ = c₂ .before in
+    let c₄ = c₃ .before in
+    let c₅ = c₄ .before .before .before .before in
+    let args = c₅ .args in
+    tower-ready (args .s) (args .store .now) (args .work .now) (args .h) (c₅ .pre .0) _ _ _ (c₄ .weight .ensures) (c₃ .digits .ensures .0) (c₂ .top-bit .ensures .0) _ _ (c₁ .fresh-tares .ensures)
 
 sub-append-buckets : tie.Need-sub-append-buckets
 sub-append-buckets c =
-    let args = c .before .before .before .before .before .before .before .before .before .before .before .before .before .before .before .before .args in
-    omega (arith, c .before .before .before .before .before .before .tower .ensures .2, power-few (args .s) (args .store .now) (args .work .now) (args .h) (c .before .before .before .before .before .before .before .before .before .before .before .before .before .before .before .before .pre .0) _ _ _ (c .before .before .before .before .before .before .before .before .before .before .before .before .weight .ensures) (c .before .before .before .before .before .before .before .before .before .before .before .digits .ensures .0) (c .before .before .before .before .before .before .before .before .before .before .top-bit .ensures .0))
+    let c₁ = c .before .before .before .before .before .before in
+    let c₂ = c₁ .before .before .before .before in
+    let c₃ = c₂ .before in
+    let c₄ = c₃ .before in
+    let c₅ = c₄ .before .before .before .before in
+    let args = c₅ .args in
+    omega (arith, c₁ .tower .ensures .2, power-few (args .s) (args .store .now) (args .work .now) (args .h) (c₅ .pre .0) _ _ _ (c₄ .weight .ensures) (c₃ .digits .ensures .0) (c₂ .top-bit .ensures .0))
 
 append-buckets-requires : tie.Need-append-buckets-requires
 append-buckets-requires c κs =
-    let tower = c .before .before .before .before .before .before .tower in
-    let top-bit = c .before .before .before .before .before .before .before .before .before .before .top-bit in
-    let digits = c .before .before .before .before .before .before .before .before .before .before .before .digits in
-    let weight = c .before .before .before .before .before .before .before .before .before .before .before .before .weight in
-    let args = c .before .before .before .before .before .before .before .before .before .before .before .before .before .before .before .before .args in
-    let pre = c .before .before .before .before .before .before .before .before .before .before .before .before .before .before .before .before .pre in
+    let c₁ = c .before .before .before .before .before .before in
+    let tower = c₁ .tower in
+    let c₂ = c₁ .before .before .before .before in
+    let top-bit = c₂ .top-bit in
+    let c₃ = c₂ .before in
+    let digits = c₃ .digits in
+    let c₄ = c₃ .before in
+    let weight = c₄ .weight in
+    let c₅ = c₄ .before .before .before .before in
+    let args = c₅ .args in
+    let pre = c₅ .pre in
     (omega (arith, power-few (args .s) (args .store .now) (args .work .now) (args .h) (pre .0) _ _ _ (weight .ensures) (digits .ensures .0) (top-bit .ensures .0), tower .ensures .2), omega (arith, tower .ensures .1, pre .0 .long, tower .ensures .2, power-few (args .s) (args .store .now) (args .work .now) (args .h) (pre .0) _ _ _ (weight .ensures) (digits .ensures .0) (top-bit .ensures .0)))
 
-cast-t17 : tie.Need-cast-t17
-cast-t17 c =
-    let args = c .before .before .before .before .before .before .before .before .before .before .before .before .before .before .before .before .before .before .before .args in
-    omega (arith, c .before .before .before .before .before .before .before .before .before .tower .ensures .2, power-few (args .s) (args .store .now) (args .work .now) (args .h) (c .before .before .before .before .before .before .before .before .before .before .before .before .before .before .before .before .before .before .before .pre .0) _ _ _ (c .before .before .before .before .before .before .before .before .before .before .before .before .before .before .before .weight .ensures) (c .before .before .before .before .before .before .before .before .before .before .before .before .before .before .digits .ensures .0) (c .before .before .before .before .before .before .before .before .before .before .before .before .before .top-bit .ensures .0))
+cast-t18 : tie.Need-cast-t18
+cast-t18 c =
+    let c₁ = c .before .before .before .before .before .before .before .before .before in
+    let c₂ = c₁ .before .before .before .before in
+    let c₃ = c₂ .before in
+    let c₄ = c₃ .before in
+    let c₅ = c₄ .before .before .before .before in
+    let args = c₅ .args in
+    omega (arith, c₁ .tower .ensures .2, power-few (args .s) (args .store .now) (args .work .now) (args .h) (c₅ .pre .0) _ _ _ (c₄ .weight .ensures) (c₃ .digits .ensures .0) (c₂ .top-bit .ensures .0))
 
 same-length : tie.Need-same-length
 same-length c = search needs
@@ -79,13 +99,20 @@ same-length-2 c = search needs
 
 returns : tie.Need-returns
 returns c =
-    let tower = c .before .before .before .before .before .before .before .before .before .tower in
-    let top-bit = c .before .before .before .before .before .before .before .before .before .before .before .before .before .top-bit in
-    let digits = c .before .before .before .before .before .before .before .before .before .before .before .before .before .before .digits in
-    let weight = c .before .before .before .before .before .before .before .before .before .before .before .before .before .before .before .weight in
-    let args = c .before .before .before .before .before .before .before .before .before .before .before .before .before .before .before .before .before .before .before .args in
-    let pre = c .before .before .before .before .before .before .before .before .before .before .before .before .before .before .before .before .before .before .before .pre in
-    (λ e b h. built (args .s) (args .store .now) (args .work .now) (args .h) (pre .0) _ _ _ (weight .ensures) (digits .ensures .0) (top-bit .ensures .0) _ _ e _ _ _ _ _ (pre .1) (tower .ensures .2) (omega (arith, tower .ensures .1, pre .0 .long)) (c .before .before .before .before .before .before .before .before .before .before .before .before .fresh-tares .ensures) refl refl (made-slots _ _ _ _ refl (c .before .before .append-buckets .ensures)) refl (tower .ensures .0 b (line-low (args .s) (args .store .now) (args .work .now) (args .h) (pre .0) _ _ _ (weight .ensures) (digits .ensures .0) (top-bit .ensures .0))) h, tower .ensures .1, tower .ensures .3, omega (arith, power-few (args .s) (args .store .now) (args .work .now) (args .h) (pre .0) _ _ _ (weight .ensures) (digits .ensures .0) (top-bit .ensures .0)))
+    let c₁ = c .before .before in
+    let c₂ = c₁ .before .before .before .before .before .before .before in
+    let tower = c₂ .tower in
+    let c₃ = c₂ .before .before .before in
+    let c₄ = c₃ .before in
+    let top-bit = c₄ .top-bit in
+    let c₅ = c₄ .before in
+    let digits = c₅ .digits in
+    let c₆ = c₅ .before in
+    let weight = c₆ .weight in
+    let c₇ = c₆ .before .before .before .before in
+    let args = c₇ .args in
+    let pre = c₇ .pre in
+    (λ e b h. built (args .s) (args .store .now) (args .work .now) (args .h) (pre .0) _ _ _ (weight .ensures) (digits .ensures .0) (top-bit .ensures .0) _ _ e _ _ _ _ _ (pre .1) (tower .ensures .2) (omega (arith, tower .ensures .1, pre .0 .long)) (c₃ .fresh-tares .ensures) refl refl (made-slots _ _ _ _ refl (c₁ .append-buckets .ensures)) refl (tower .ensures .0 b (line-low (args .s) (args .store .now) (args .work .now) (args .h) (pre .0) _ _ _ (weight .ensures) (digits .ensures .0) (top-bit .ensures .0))) h, tower .ensures .1, tower .ensures .3, omega (arith, power-few (args .s) (args .store .now) (args .work .now) (args .h) (pre .0) _ _ _ (weight .ensures) (digits .ensures .0) (top-bit .ensures .0)))
 
 pub build-structure-spec : {M : Type 1} → statement M
 build-structure-spec =
@@ -99,13 +126,13 @@ build-structure-spec =
     sub-k-2
     cast-fresh-tares
     fresh-tares-requires
-    cast-tower
-    cast-tower-2
-    cast-tower-3
+    cast-append-buckets
+    cast-t20
+    cast-t21
     tower-requires
     sub-append-buckets
     append-buckets-requires
-    cast-t17
+    cast-t18
     same-length
     same-length-2
     returns)

@@ -31,7 +31,12 @@ same-length-3 c = search needs
 
 returns : tie.Need-returns
 unfolding settled
-returns c = end-is _ _ _ _ _ _ _ _ (c .encoded .ensures) (c .before .before .before .before .before .before .before .before .before .before .zero-words .ensures) (c .before .before .before .before .before .before .zero-signed .ensures) (all-zero (c .before .before .before .before .before .before .before .before .before .before .before .before .before .before .before .args .work .now) _ (c .before .before .before .zero-words2 .ensures))
+returns c =
+    let c₁ = c .before .before .before in
+    let c₂ = c₁ .before .before .before in
+    let c₃ = c₂ .before .before .before .before in
+    let c₄ = c₃ .before .before .before .before .before in
+    end-is _ _ _ _ _ _ _ _ (c .encoded .ensures) (c₃ .zero-words .ensures) (c₂ .zero-signed .ensures) (all-zero (c₄ .args .work .now) _ (c₁ .zero-words2 .ensures))
 
 pub settled-spec : {M : Type 1} → statement M
 settled-spec =

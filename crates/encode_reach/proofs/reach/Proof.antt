@@ -54,11 +54,15 @@ same-length-6 c = search needs
 
 returns-2 : tie.Need-returns-2
 returns-2 c =
-    let completed = c .before .before .before .completed in
-    let standing = c .before .before .before .before .standing in
-    let args = c .before .before .before .before .before .before .before .before .before .before .before .before .args in
-    let pre = c .before .before .before .before .before .before .before .before .before .before .before .before .pre in
-    (stands-reached (args .s) (args .store .now) (args .clauses .now) (pre .0 .well) _ (args .work .now) _ _ (args .range) (standing .result) _ (pre .1) (pre .0 .reached) (sym (pre .2) ∙ c .before .before .before .before .before .before .before .before .before .if1 .left) (pre .3) (standing .ensures) (completed .ensures .0) (completed .ensures .1), refl, refl)
+    let c₁ = c .before .before .before in
+    let completed = c₁ .completed in
+    let c₂ = c₁ .before in
+    let standing = c₂ .standing in
+    let c₃ = c₂ .before .before .before .before .before in
+    let c₄ = c₃ .before .before .before in
+    let args = c₄ .args in
+    let pre = c₄ .pre in
+    (stands-reached (args .s) (args .store .now) (args .clauses .now) (pre .0 .well) _ (args .work .now) _ _ (args .range) (standing .result) _ (pre .1) (pre .0 .reached) (sym (pre .2) ∙ c₃ .if1 .left) (pre .3) (standing .ensures) (completed .ensures .0) (completed .ensures .1), refl, refl)
 
 pub reach-spec : {M : Type 1} → statement M
 reach-spec =

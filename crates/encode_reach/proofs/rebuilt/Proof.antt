@@ -39,9 +39,11 @@ sub-t19 c = omega (arith, c .before .before .before .before .before .structured 
 
 completed-requires : tie.Need-completed-requires
 completed-requires c κs =
-    let structured = c .before .before .before .before .before .before .before .before .structured in
-    let args = c .before .before .before .before .before .before .before .before .before .before .before .before .before .before .args in
-    (structured .ensures .3, asked-range (buildOf (args .s) (args .store .now)) _ _ (c .before .before .before .before .before .before .before .before .before .before .before .before .before .before .pre .0 .asked), record { node-low = omega (arith, structured .ensures .2); weight-low = omega (arith, structured .ensures .2); apart-few = omega arith; many-few = omega arith })
+    let c₁ = c .before .before .before .before .before .before .before .before in
+    let structured = c₁ .structured in
+    let c₂ = c₁ .before .before .before .before .before .before in
+    let args = c₂ .args in
+    (structured .ensures .3, asked-range (buildOf (args .s) (args .store .now)) _ _ (c₂ .pre .0 .asked), record { node-low = omega (arith, structured .ensures .2); weight-low = omega (arith, structured .ensures .2); apart-few = omega arith; many-few = omega arith })
 
 same-length : tie.Need-same-length
 same-length c = search needs
@@ -54,10 +56,13 @@ same-length-3 c = search needs
 
 returns : tie.Need-returns
 returns c =
-    let completed = c .before .before .before .completed in
-    let structured = c .before .before .before .before .before .before .before .before .before .before .before .before .structured in
-    let args = c .before .before .before .before .before .before .before .before .before .before .before .before .before .before .before .before .before .before .args in
-    let pre = c .before .before .before .before .before .before .before .before .before .before .before .before .before .before .before .before .before .before .pre in
+    let c₁ = c .before .before .before in
+    let completed = c₁ .completed in
+    let c₂ = c₁ .before .before .before .before .before .before .before .before .before in
+    let structured = c₂ .structured in
+    let c₃ = c₂ .before .before .before .before .before .before in
+    let args = c₃ .args in
+    let pre = c₃ .pre in
     (rebuilt-reached (buildOf (args .s) (args .store .now)) (st (args .store .now) (args .clauses .now) (marks-at (args .s) (args .n))) _ _ _ _ _ (structured .result) _ (args .range) (tail-put (args .work .now) _ (omega (arith, pre .3))) (completed .ensures .0) (structured .ensures .0) (completed .ensures .1), same-len-mid 3072 (length (args .work .now) - 3072) (args .work .now) (structured .last .1 .1 .1 .0) (structured .ensures .1), take-put 3072 (length (args .work .now) - 3072) (args .work .now) (structured .last .1 .1 .1 .0) (omega (arith, pre .3)))
 
 pub rebuilt-spec : {M : Type 1} → statement M

@@ -18,10 +18,13 @@ queued-requires c κs =
 
 build-structure-requires : tie.Need-build-structure-requires
 build-structure-requires c κs =
-    let queued = c .before .before .before .before .before .before .queued in
-    let args = c .before .before .before .before .before .before .before .before .before .before .before .before .args in
-    let pre = c .before .before .before .before .before .before .before .before .before .before .before .before .pre in
-    (ready (args .s) (args .store .now) (args .clauses .now) (pre .0) _ (pre .1) (pre .2) _ _ (omega (arith, queued .ensures .2, pre .3)) (queued .ensures .3) (queued .ensures .0) (queued .ensures .1), marks-at-fresh _ _ _ (c .before .before .before .before .before .before .before .before .before .marks-at .ensures))
+    let c₁ = c .before .before .before .before .before .before in
+    let queued = c₁ .queued in
+    let c₂ = c₁ .before .before .before in
+    let c₃ = c₂ .before .before .before in
+    let args = c₃ .args in
+    let pre = c₃ .pre in
+    (ready (args .s) (args .store .now) (args .clauses .now) (pre .0) _ (pre .1) (pre .2) _ _ (omega (arith, queued .ensures .2, pre .3)) (queued .ensures .3) (queued .ensures .0) (queued .ensures .1), marks-at-fresh _ _ _ (c₂ .marks-at .ensures))
 
 same-length : tie.Need-same-length
 same-length c = search needs
@@ -31,17 +34,26 @@ same-length-2 c = search needs
 
 returns : tie.Need-returns
 returns c =
-    let build-structure = c .before .before .before .before .build-structure in
-    let args = c .before .before .before .before .before .before .before .before .before .before .before .before .before .before .before .before .before .args in
-    let pre = c .before .before .before .before .before .before .before .before .before .before .before .before .before .before .before .before .before .pre in
-    (first-structured (args .s) (args .store .now) _ _ _ _ (c .before .before .before .before .before .before .before .if1 .taken) (build-structure .ensures .0 _ _ (entered-by (args .s) (args .store .now) (args .clauses .now) (pre .0) _ (pre .1) _ (c .before .before .before .before .before .before .before .before .before .before .before .before .before .before .marks-at .ensures))), build-structure .ensures .1 ∙ c .before .before .before .before .before .before .before .before .before .before .before .queued .ensures .2, build-structure .ensures .2, build-structure .ensures .3)
+    let c₁ = c .before .before .before .before in
+    let build-structure = c₁ .build-structure in
+    let c₂ = c₁ .before .before .before in
+    let c₃ = c₂ .before .before .before .before in
+    let c₄ = c₃ .before .before .before in
+    let c₅ = c₄ .before .before .before in
+    let args = c₅ .args in
+    let pre = c₅ .pre in
+    (first-structured (args .s) (args .store .now) _ _ _ _ (c₂ .if1 .taken) (build-structure .ensures .0 _ _ (entered-by (args .s) (args .store .now) (args .clauses .now) (pre .0) _ (pre .1) _ (c₄ .marks-at .ensures))), build-structure .ensures .1 ∙ c₃ .queued .ensures .2, build-structure .ensures .2, build-structure .ensures .3)
 
 merge-structures-requires : tie.Need-merge-structures-requires
 merge-structures-requires c κs =
-    let queued = c .before .before .before .before .before .before .before .queued in
-    let args = c .before .before .before .before .before .before .before .before .before .before .before .before .before .args in
-    let pre = c .before .before .before .before .before .before .before .before .before .before .before .before .before .pre in
-    refinable (args .s) (args .store .now) (args .clauses .now) (pre .0) _ (pre .1) (pre .2) _ _ (omega (arith, queued .ensures .2, pre .3)) (queued .ensures .3) (queued .ensures .0) (queued .ensures .1) _ (c .before .before .before .before .before .before .before .before .before .before .marks-at .ensures) (c .before .before .before .if1 .left)
+    let c₁ = c .before .before .before in
+    let c₂ = c₁ .before .before .before .before in
+    let queued = c₂ .queued in
+    let c₃ = c₂ .before .before .before in
+    let c₄ = c₃ .before .before .before in
+    let args = c₄ .args in
+    let pre = c₄ .pre in
+    refinable (args .s) (args .store .now) (args .clauses .now) (pre .0) _ (pre .1) (pre .2) _ _ (omega (arith, queued .ensures .2, pre .3)) (queued .ensures .3) (queued .ensures .0) (queued .ensures .1) _ (c₃ .marks-at .ensures) (c₁ .if1 .left)
 
 same-length-3 : tie.Need-same-length-3
 same-length-3 c = search needs
@@ -54,9 +66,14 @@ same-length-5 c = search needs
 
 returns-2 : tie.Need-returns-2
 returns-2 c =
-    let merge-structures = c .before .before .before .before .before .merge-structures in
-    let args = c .before .before .before .before .before .before .before .before .before .before .before .before .before .before .before .before .before .before .before .args in
-    (refined-structured (args .s) (args .store .now) _ _ _ _ (c .before .before .before .before .before .before .before .before .before .if1 .left) (c .before .before .before .before .before .before .before .before .before .before .before .before .before .before .before .before .before .before .before .pre .2) (refines-by _ _ _ _ _ _ _ _ (c .before .before .before .before .before .before .before .before .before .before .before .before .before .before .before .before .marks-at .ensures) (merge-structures .ensures .0)), merge-structures .ensures .1 ∙ c .before .before .before .before .before .before .before .before .before .before .before .before .before .queued .ensures .2, merge-structures .ensures .2, merge-structures .ensures .3)
+    let c₁ = c .before .before .before .before .before in
+    let merge-structures = c₁ .merge-structures in
+    let c₂ = c₁ .before .before .before .before in
+    let c₃ = c₂ .before .before .before .before in
+    let c₄ = c₃ .before .before .before in
+    let c₅ = c₄ .before .before .before in
+    let args = c₅ .args in
+    (refined-structured (args .s) (args .store .now) _ _ _ _ (c₂ .if1 .left) (c₅ .pre .2) (refines-by _ _ _ _ _ _ _ _ (c₄ .marks-at .ensures) (merge-structures .ensures .0)), merge-structures .ensures .1 ∙ c₃ .queued .ensures .2, merge-structures .ensures .2, merge-structures .ensures .3)
 
 pub structured-spec : {M : Type 1} → statement M
 structured-spec =

@@ -36,7 +36,7 @@ cast-copy c = search needs
 mul-copy-3 : tie.Need-mul-copy-3 Inv-loop μ-loop
 mul-copy-3 c =
     let args = c .before .before .before .before .before .args in
-    let slot : 8 * getD (args .t3) (c .before .before .loop .k) 0 + 8 ≤ length (args .s .now) = slot-fact (λ b. 8 * b + 8 ≤ length (args .s .now)) (args .t3) _ _ (search needs) (c .before .loop-test .taken) (c .before .before .before .before .before .pre .2) in search needs
+    let slot : 8 * getD (args .t3) (c .before .before .loop .k) 0 + 8 ≤ length (args .store .now) = slot-fact (λ b. 8 * b + 8 ≤ length (args .store .now)) (args .t3) _ _ (search needs) (c .before .loop-test .taken) (c .before .before .before .before .before .pre .2) in search needs
 
 copy-requires : tie.Need-copy-requires Inv-loop μ-loop
 copy-requires c κs =
@@ -44,7 +44,7 @@ copy-requires c κs =
     let loop = c .before .before .loop in
     let args = c .before .before .before .before .before .args in
     let pre = c .before .before .before .before .before .pre in
-    let slot : 8 * getD (args .t3) (loop .k) 0 + 8 ≤ length (args .s .now) = slot-fact (λ b. 8 * b + 8 ≤ length (args .s .now)) (args .t3) _ _ (search needs) (loop-test .taken) (pre .2) in (omega (arith, loop .inv .0 .same-length, pre .0, pre .1, loop-test .taken), omega (arith, slot, loop .inv .0 .same-length))
+    let slot : 8 * getD (args .t3) (loop .k) 0 + 8 ≤ length (args .store .now) = slot-fact (λ b. 8 * b + 8 ≤ length (args .store .now)) (args .t3) _ _ (search needs) (loop-test .taken) (pre .2) in (omega (arith, loop .inv .0 .same-length, pre .0, pre .1, loop-test .taken), omega (arith, slot, loop .inv .0 .same-length))
 
 add-k : tie.Need-add-k Inv-loop μ-loop
 add-k c = omega arith
@@ -57,7 +57,7 @@ loop-again c =
     let loop-test = c .before .before .before .before .loop-test in
     let args = c .before .before .before .before .before .before .before .before .args in
     let pre = c .before .before .before .before .before .before .before .before .pre in
-    (restores-turn _ _ _ _ (args .t3) _ (search needs) (omega (arith, loop-test .taken, pre .0)) (pre .1) (slot-fact (λ b. 8 * b + 8 ≤ length (args .s .now)) (args .t3) _ _ (search needs) (loop-test .taken) (pre .2)) (c .before .before .copy .ensures) (c .before .before .before .before .before .loop .inv .0), omega arith)
+    (restores-turn _ _ _ _ (args .t3) _ (search needs) (omega (arith, loop-test .taken, pre .0)) (pre .1) (slot-fact (λ b. 8 * b + 8 ≤ length (args .store .now)) (args .t3) _ _ (search needs) (loop-test .taken) (pre .2)) (c .before .before .copy .ensures) (c .before .before .before .before .before .loop .inv .0), omega arith)
 
 same-length : tie.Need-same-length Inv-loop μ-loop
 same-length c = c .before .loop .inv .0 .same-length

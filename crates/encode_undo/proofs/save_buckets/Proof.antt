@@ -30,7 +30,7 @@ cast-copy c = search needs
 mul-copy-2 : tie.Need-mul-copy-2 Inv-loop μ-loop
 mul-copy-2 c =
     let args = c .before .before .before .before .args in
-    let slot : 8 * getD (args .t3) (c .before .loop .i) 0 + 8 ≤ length (args .s .now) = slot-fact (λ b. 8 * b + 8 ≤ length (args .s .now)) (args .t3) _ _ (search needs) (c .loop-test .taken) (c .before .before .before .before .pre .2) in search needs
+    let slot : 8 * getD (args .t3) (c .before .loop .i) 0 + 8 ≤ length (args .store .now) = slot-fact (λ b. 8 * b + 8 ≤ length (args .store .now)) (args .t3) _ _ (search needs) (c .loop-test .taken) (c .before .before .before .before .pre .2) in search needs
 
 mul-copy-3 : tie.Need-mul-copy-3 Inv-loop μ-loop
 mul-copy-3 c = search needs
@@ -44,7 +44,7 @@ copy-requires c κs =
     let loop = c .before .before .loop in
     let args = c .before .before .before .before .before .args in
     let pre = c .before .before .before .before .before .pre in
-    let slot : 8 * getD (args .t3) (loop .i) 0 + 8 ≤ length (args .s .now) = slot-fact (λ b. 8 * b + 8 ≤ length (args .s .now)) (args .t3) _ _ (search needs) (loop-test .taken) (pre .2) in (omega (arith, slot, loop .inv .0 .same-length), omega (arith, loop .inv .0 .same-length, pre .0, pre .1, loop-test .taken))
+    let slot : 8 * getD (args .t3) (loop .i) 0 + 8 ≤ length (args .store .now) = slot-fact (λ b. 8 * b + 8 ≤ length (args .store .now)) (args .t3) _ _ (search needs) (loop-test .taken) (pre .2) in (omega (arith, slot, loop .inv .0 .same-length), omega (arith, loop .inv .0 .same-length, pre .0, pre .1, loop-test .taken))
 
 add-i : tie.Need-add-i Inv-loop μ-loop
 add-i c = omega arith
@@ -57,7 +57,7 @@ loop-again c =
     let loop-test = c .before .before .before .before .loop-test in
     let args = c .before .before .before .before .before .before .before .before .args in
     let pre = c .before .before .before .before .before .before .before .before .pre in
-    (saves-turn _ _ _ _ _ _ (omega (arith, loop-test .taken, pre .0)) (pre .1) (slot-fact (λ b. 8 * b + 8 ≤ length (args .s .now)) (args .t3) _ _ (search needs) (loop-test .taken) (pre .2)) (c .before .before .copy .ensures) (c .before .before .before .before .before .loop .inv .0), omega arith)
+    (saves-turn _ _ _ _ _ _ (omega (arith, loop-test .taken, pre .0)) (pre .1) (slot-fact (λ b. 8 * b + 8 ≤ length (args .store .now)) (args .t3) _ _ (search needs) (loop-test .taken) (pre .2)) (c .before .before .copy .ensures) (c .before .before .before .before .before .loop .inv .0), omega arith)
 
 same-length : tie.Need-same-length Inv-loop μ-loop
 same-length c = c .before .loop .inv .0 .same-length

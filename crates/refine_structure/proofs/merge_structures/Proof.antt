@@ -36,35 +36,60 @@ former-halves-requires c κs = omega (arith, within _ _ _ _ _ _ (c .before .befo
 
 segment-requires : tie.Need-segment-requires
 segment-requires c κs =
-    let pre = c .before .before .before .before .before .before .before .before .before .before .before .before .before .pre in
-    (queued _ _ _ _ _ _ pre, positive _ _ _ _ _ _ pre, spans _ _ _ _ _ _ pre, tares-small _ _ _ _ _ _ pre _ (counted _ _ _ _ _ _ pre _ _ (c .before .before .before .before .before .before .before .before .before .before .top-bit .ensures .0) (c .before .before .before .before .before .before .before .before .before .top-bit2 .ensures .0) .1) _ (c .before .before .before .before .before .before .new-tares .ensures))
+    let c₁ = c .before .before .before .before .before .before in
+    let c₂ = c₁ .before .before .before in
+    let c₃ = c₂ .before in
+    let c₄ = c₃ .before .before .before in
+    let pre = c₄ .pre in
+    (queued _ _ _ _ _ _ pre, positive _ _ _ _ _ _ pre, spans _ _ _ _ _ _ pre, tares-small _ _ _ _ _ _ pre _ (counted _ _ _ _ _ _ pre _ _ (c₃ .top-bit .ensures .0) (c₂ .top-bit2 .ensures .0) .1) _ (c₁ .new-tares .ensures))
 
 highest-requires : tie.Need-highest-requires
-highest-requires c κs = omega (arith, c .before .before .before .before .before .segment .ensures .2, within _ _ _ _ _ _ (c .before .before .before .before .before .before .before .before .before .before .before .before .before .before .before .before .before .before .before .pre) .1)
+highest-requires c κs =
+    let c₁ = c .before .before .before .before .before in
+    let c₂ = c₁ .before .before .before .before .before .before .before .before .before .before .before .before .before .before in
+    omega (arith, c₁ .segment .ensures .2, within _ _ _ _ _ _ (c₂ .pre) .1)
 
 renew-requires : tie.Need-renew-requires
 renew-requires c κs = omega (arith, within _ _ _ _ _ _ (c .before .before .before .before .before .before .before .before .before .before .before .before .before .before .before .before .before .before .before .before .before .before .pre) .1)
 
 sub-append-buckets : tie.Need-sub-append-buckets
-sub-append-buckets c = omega (arith, c .before .before .before .before .before .before .before .before .before .before .before .before .before .before .segment .ensures .2, within _ _ _ _ _ _ (c .before .before .before .before .before .before .before .before .before .before .before .before .before .before .before .before .before .before .before .before .before .before .before .before .before .before .before .before .pre) .1)
+sub-append-buckets c =
+    let c₁ = c .before .before .before .before .before .before .before .before .before .before .before .before .before .before in
+    let c₂ = c₁ .before .before .before .before .before .before .before .before .before .before .before .before .before .before in
+    omega (arith, c₁ .segment .ensures .2, within _ _ _ _ _ _ (c₂ .pre) .1)
 
 append-buckets-requires : tie.Need-append-buckets-requires
 append-buckets-requires c κs =
-    let segment = c .before .before .before .before .before .before .before .before .before .before .before .before .before .before .segment in
-    let pre = c .before .before .before .before .before .before .before .before .before .before .before .before .before .before .before .before .before .before .before .before .before .before .before .before .before .before .before .before .pre in
+    let c₁ = c .before .before .before .before .before .before .before .before .before .before .before .before .before .before in
+    let segment = c₁ .segment in
+    let c₂ = c₁ .before .before .before .before .before .before .before .before .before .before .before .before .before .before in
+    let pre = c₂ .pre in
     (omega (arith, segment .ensures .2, within _ _ _ _ _ _ pre .1), omega (arith, segment .ensures .2, within _ _ _ _ _ _ pre .1, segment .ensures .1, pre .long))
 
 add-t17 : tie.Need-add-t17
-add-t17 c = omega (arith, counted _ _ _ _ _ _ (c .before .before .before .before .before .before .before .before .before .before .before .before .before .before .before .before .before .before .before .before .before .before .before .before .before .before .before .before .before .before .pre) _ _ (c .before .before .before .before .before .before .before .before .before .before .before .before .before .before .before .before .before .before .before .before .before .before .before .before .before .before .before .top-bit .ensures .0) (c .before .before .before .before .before .before .before .before .before .before .before .before .before .before .before .before .before .before .before .before .before .before .before .before .before .before .top-bit2 .ensures .0) .2)
+add-t17 c =
+    let c₁ = c .before .before .before .before .before .before .before .before .before .before .before .before .before .before .before .before .before .before .before .before .before .before .before .before .before .before in
+    let c₂ = c₁ .before in
+    let c₃ = c₂ .before .before .before in
+    omega (arith, counted _ _ _ _ _ _ (c₃ .pre) _ _ (c₂ .top-bit .ensures .0) (c₁ .top-bit2 .ensures .0) .2)
 
 cast-t18 : tie.Need-cast-t18
-cast-t18 c = omega (arith, c .before .before .before .before .before .before .before .before .before .before .before .before .before .before .before .before .before .segment .ensures .2, within _ _ _ _ _ _ (c .before .before .before .before .before .before .before .before .before .before .before .before .before .before .before .before .before .before .before .before .before .before .before .before .before .before .before .before .before .before .before .pre) .1)
+cast-t18 c =
+    let c₁ = c .before .before .before .before .before .before .before .before .before .before .before .before .before .before .before .before .before in
+    let c₂ = c₁ .before .before .before .before .before .before .before .before .before .before .before .before .before .before in
+    omega (arith, c₁ .segment .ensures .2, within _ _ _ _ _ _ (c₂ .pre) .1)
 
 add-t35 : tie.Need-add-t35
-add-t35 c = omega (arith, c .before .before .before .before .before .before .before .before .before .before .before .before .before .before .before .before .before .before .segment .ensures .2, within _ _ _ _ _ _ (c .before .before .before .before .before .before .before .before .before .before .before .before .before .before .before .before .before .before .before .before .before .before .before .before .before .before .before .before .before .before .before .before .pre) .1)
+add-t35 c =
+    let c₁ = c .before .before .before .before .before .before .before .before .before .before .before .before .before .before .before .before .before .before in
+    let c₂ = c₁ .before .before .before .before .before .before .before .before .before .before .before .before .before .before in
+    omega (arith, c₁ .segment .ensures .2, within _ _ _ _ _ _ (c₂ .pre) .1)
 
 same-length : tie.Need-same-length
-same-length c = c .before .before .before .before .before .before .before .before .before .renew .kept .0 ∙ c .before .before .before .before .before .before .before .before .before .before .before .before .before .before .before .before .before .before .segment .kept .1 .0
+same-length c =
+    let c₁ = c .before .before .before .before .before .before .before .before .before in
+    let c₂ = c₁ .before .before .before .before .before .before .before .before .before in
+    c₁ .renew .kept .0 ∙ c₂ .segment .kept .1 .0
 
 same-length-2 : tie.Need-same-length-2
 same-length-2 c = search needs
@@ -74,11 +99,20 @@ same-length-3 c = c .before .before .before .before .before .before .before .bef
 
 returns : tie.Need-returns
 returns c =
-    let segment = c .before .before .before .before .before .before .before .before .before .before .before .before .before .before .before .before .before .before .segment in
-    let top-bit2 = c .before .before .before .before .before .before .before .before .before .before .before .before .before .before .before .before .before .before .before .before .before .before .before .before .before .before .before .before .top-bit2 in
-    let top-bit = c .before .before .before .before .before .before .before .before .before .before .before .before .before .before .before .before .before .before .before .before .before .before .before .before .before .before .before .before .before .top-bit in
-    let pre = c .before .before .before .before .before .before .before .before .before .before .before .before .before .before .before .before .before .before .before .before .before .before .before .before .before .before .before .before .before .before .before .before .pre in
-    (merge-done _ _ _ _ _ _ pre _ (counted _ _ _ _ _ _ pre _ _ (top-bit .ensures .0) (top-bit2 .ensures .0) .1) _ (c .before .before .before .before .before .before .before .before .before .before .before .before .before .before .before .before .before .before .before .before .before .before .before .before .before .new-tares .ensures) _ (c .before .before .before .before .before .before .before .before .before .before .before .before .before .before .before .before .before .before .before .before .before .former-halves .ensures .0) _ _ _ (segment .ensures .0) (segment .ensures .1) (segment .ensures .2) _ (c .before .before .before .before .before .before .before .before .before .before .before .before .highest .ensures) _ (c .before .before .before .before .before .before .before .before .before .renew .ensures) _ _ (c .before .before .before .append-buckets .ensures), segment .ensures .1, segment .ensures .3, omega (arith, counted _ _ _ _ _ _ pre _ _ (top-bit .ensures .0) (top-bit2 .ensures .0) .2), omega (arith, segment .ensures .2, within _ _ _ _ _ _ pre .1))
+    let c₁ = c .before .before .before in
+    let c₂ = c₁ .before .before .before .before .before .before in
+    let c₃ = c₂ .before .before .before in
+    let c₄ = c₃ .before .before .before .before .before .before in
+    let segment = c₄ .segment in
+    let c₅ = c₄ .before .before .before in
+    let c₆ = c₅ .before .before .before .before in
+    let c₇ = c₆ .before .before .before in
+    let top-bit2 = c₇ .top-bit2 in
+    let c₈ = c₇ .before in
+    let top-bit = c₈ .top-bit in
+    let c₉ = c₈ .before .before .before in
+    let pre = c₉ .pre in
+    (merge-done _ _ _ _ _ _ pre _ (counted _ _ _ _ _ _ pre _ _ (top-bit .ensures .0) (top-bit2 .ensures .0) .1) _ (c₆ .new-tares .ensures) _ (c₅ .former-halves .ensures .0) _ _ _ (segment .ensures .0) (segment .ensures .1) (segment .ensures .2) _ (c₃ .highest .ensures) _ (c₂ .renew .ensures) _ _ (c₁ .append-buckets .ensures), segment .ensures .1, segment .ensures .3, omega (arith, counted _ _ _ _ _ _ pre _ _ (top-bit .ensures .0) (top-bit2 .ensures .0) .2), omega (arith, segment .ensures .2, within _ _ _ _ _ _ pre .1))
 
 pub merge-structures-spec : {M : Type 1} → statement M
 merge-structures-spec =

@@ -30,7 +30,12 @@ same-length-3 : tie.Need-same-length-3
 same-length-3 c = search needs
 
 returns-3 : tie.Need-returns-3
-returns-3 c = λ s₀ m₀ before d t r. renew-done _ _ _ _ _ _ _ _ _ _ _ _ r (c .before .before .before .before .before .before .before .before .before .before .before .if1 .left) _ _ _ (not-false _ (c .before .before .before .before .before .before .if2 .left)) (c .before .before .before .before .before .before .before .before .before .relink .ensures) (c .before .before .before .extend-buckets .ensures)
+returns-3 c =
+    let c₁ = c .before .before .before in
+    let c₂ = c₁ .before .before .before in
+    let c₃ = c₂ .before .before .before in
+    let c₄ = c₃ .before .before in
+    λ s₀ m₀ before d t r. renew-done _ _ _ _ _ _ _ _ _ _ _ _ r (c₄ .if1 .left) _ _ _ (not-false _ (c₂ .if2 .left)) (c₃ .relink .ensures) (c₁ .extend-buckets .ensures)
 
 pub renew-spec : {M : Type 1} → statement M
 renew-spec =

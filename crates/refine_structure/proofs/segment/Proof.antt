@@ -32,14 +32,14 @@ cast-own-2 c = search needs
 sub-own : tie.Need-sub-own
 sub-own c = spans-within _ _ _ (c .before .before .before .top-bit .ensures .0) (c .before .before .top-bit2 .ensures .0) (c .before .before .before .before .before .before .pre .2) .1
 
-add-tower : tie.Need-add-tower
-add-tower c = search needs
+add-t13 : tie.Need-add-t13
+add-t13 c = search needs
 
-add-tower-2 : tie.Need-add-tower-2
-add-tower-2 c = search needs
+add-t15 : tie.Need-add-t15
+add-t15 c = search needs
 
-cast-tower : tie.Need-cast-tower
-cast-tower c = search needs
+cast-t12 : tie.Need-cast-t12
+cast-t12 c = search needs
 
 tower-requires : tie.Need-tower-requires
 tower-requires c κs =
@@ -56,10 +56,14 @@ same-length-2 c = search needs
 
 returns : tie.Need-returns
 returns c =
-    let tower = c .before .before .before .before .tower in
-    let top-bit2 = c .before .before .before .before .before .before .before .before .before .top-bit2 in
-    let top-bit = c .before .before .before .before .before .before .before .before .before .before .top-bit in
-    let pre = c .before .before .before .before .before .before .before .before .before .before .before .before .before .pre in
+    let c₁ = c .before .before .before .before in
+    let tower = c₁ .tower in
+    let c₂ = c₁ .before .before .before .before .before in
+    let top-bit2 = c₂ .top-bit2 in
+    let c₃ = c₂ .before in
+    let top-bit = c₃ .top-bit in
+    let c₄ = c₃ .before .before .before in
+    let pre = c₄ .pre in
     (segment-made _ _ _ (top-bit .ensures .0) (top-bit2 .ensures .0) (pre .2) _ _ _ _ _ _ _ _ (tower .ensures .0), tower .ensures .1, segment-few _ _ _ (top-bit .ensures .0) (top-bit2 .ensures .0) (pre .2) _ (tower .ensures .2), tower .ensures .3)
 
 pub segment-spec : {M : Type 1} → statement M
@@ -75,9 +79,9 @@ segment-spec =
     add-own
     cast-own-2
     sub-own
-    add-tower
-    add-tower-2
-    cast-tower
+    add-t13
+    add-t15
+    cast-t12
     tower-requires
     same-length
     same-length-2

@@ -59,9 +59,15 @@ same-length-6 c = search needs
 returns-3 : tie.Need-returns-3
 unfolding answer-of
 returns-3 c =
-    let args = c .before .before .before .before .before .before .before .before .before .before .args in
+    let c₁ = c .before in
+    let c₂ = c₁ .before in
+    let c₃ = c₂ .before in
+    let c₄ = c₃ .before in
+    let c₅ = c₄ .before in
+    let c₆ = c₅ .before .before .before .before .before in
+    let args = c₆ .args in
     let k = call (args .s) (args .store .now) (args .clauses .now) (args .work .now) (args .lo) (args .end) in
-    unasked k (sym (c .before .before .before .before .before .well-formed .ensures) ∙ not-false _ (c .before .before .before .before .if1 .left)) (c .before .before .before .if2 .left) _ (c .encoded3 .ensures) (sym (c .before .before .nothing-asked .ensures _) ∙ c .before .if3 .taken)
+    unasked k (sym (c₅ .well-formed .ensures) ∙ not-false _ (c₄ .if1 .left)) (c₃ .if2 .left) _ (c .encoded3 .ensures) (sym (c₂ .nothing-asked .ensures _) ∙ c₁ .if3 .taken)
 
 which-case-requires : tie.Need-which-case-requires
 which-case-requires c κs = search needs
@@ -78,19 +84,35 @@ same-length-8 c = search needs
 returns-4 : tie.Need-returns-4
 unfolding answer-of
 returns-4 c =
-    let which-case = c .before .before .which-case in
-    let args = c .before .before .before .before .before .before .before .before .before .before .before .before .before .args in
+    let c₁ = c .before in
+    let c₂ = c₁ .before in
+    let which-case = c₂ .which-case in
+    let c₃ = c₂ .before .before in
+    let c₄ = c₃ .before in
+    let c₅ = c₄ .before in
+    let c₆ = c₅ .before in
+    let c₇ = c₆ .before in
+    let c₈ = c₇ .before .before .before .before .before in
+    let args = c₈ .args in
     let k = call (args .s) (args .store .now) (args .clauses .now) (args .work .now) (args .lo) (args .end) in
-    let p = asks k (which-case .result) (sym (c .before .before .before .before .before .before .before .before .well-formed .ensures) ∙ not-false _ (c .before .before .before .before .before .before .before .if1 .left)) (c .before .before .before .before .before .before .if2 .left) (sym (c .before .before .before .before .before .nothing-asked .ensures _) ∙ c .before .before .before .before .if3 .left) (which-case .ensures _) in
-    ends-10 k _ p _ (c .encoded4 .ensures) (c .before .if4 .taken)
+    let p = asks k (which-case .result) (sym (c₇ .well-formed .ensures) ∙ not-false _ (c₆ .if1 .left)) (c₅ .if2 .left) (sym (c₄ .nothing-asked .ensures _) ∙ c₃ .if3 .left) (which-case .ensures _) in
+    ends-10 k _ p _ (c .encoded4 .ensures) (c₁ .if4 .taken)
 
 nothing-to-do-requires : tie.Need-nothing-to-do-requires
 nothing-to-do-requires c κs =
-    let which-case = c .before .before .which-case in
-    let args = c .before .before .before .before .before .before .before .before .before .before .before .before .before .args in
+    let c₁ = c .before in
+    let c₂ = c₁ .before in
+    let which-case = c₂ .which-case in
+    let c₃ = c₂ .before .before in
+    let c₄ = c₃ .before in
+    let c₅ = c₄ .before in
+    let c₆ = c₅ .before in
+    let c₇ = c₆ .before in
+    let c₈ = c₇ .before .before .before .before .before in
+    let args = c₈ .args in
     let k = call (args .s) (args .store .now) (args .clauses .now) (args .work .now) (args .lo) (args .end) in
-    let p = asks k (which-case .result) (sym (c .before .before .before .before .before .before .before .before .well-formed .ensures) ∙ not-false _ (c .before .before .before .before .before .before .before .if1 .left)) (c .before .before .before .before .before .before .if2 .left) (sym (c .before .before .before .before .before .nothing-asked .ensures _) ∙ c .before .before .before .before .if3 .left) (which-case .ensures _) in
-    (begins k _ p (c .before .if4 .left) .well .laid .tares-few, asked-range (buildOf (args .s) (args .store .now)) _ _ (p .asked))
+    let p = asks k (which-case .result) (sym (c₇ .well-formed .ensures) ∙ not-false _ (c₆ .if1 .left)) (c₅ .if2 .left) (sym (c₄ .nothing-asked .ensures _) ∙ c₃ .if3 .left) (which-case .ensures _) in
+    (begins k _ p (c₁ .if4 .left) .well .laid .tares-few, asked-range (buildOf (args .s) (args .store .now)) _ _ (p .asked))
 
 encoded-requires-5 : tie.Need-encoded-requires-5
 encoded-requires-5 c κs = search needs
@@ -104,21 +126,41 @@ same-length-10 c = search needs
 returns-5 : tie.Need-returns-5
 unfolding answer-of
 returns-5 c =
-    let if4 = c .before .before .before .before .if4 in
-    let which-case = c .before .before .before .before .before .which-case in
-    let args = c .before .before .before .before .before .before .before .before .before .before .before .before .before .before .before .before .args in
+    let c₁ = c .before in
+    let c₂ = c₁ .before in
+    let c₃ = c₂ .before .before in
+    let if4 = c₃ .if4 in
+    let c₄ = c₃ .before in
+    let which-case = c₄ .which-case in
+    let c₅ = c₄ .before .before in
+    let c₆ = c₅ .before in
+    let c₇ = c₆ .before in
+    let c₈ = c₇ .before in
+    let c₉ = c₈ .before in
+    let c₁₀ = c₉ .before .before .before .before .before in
+    let args = c₁₀ .args in
     let k = call (args .s) (args .store .now) (args .clauses .now) (args .work .now) (args .lo) (args .end) in
-    let p = asks k (which-case .result) (sym (c .before .before .before .before .before .before .before .before .before .before .before .well-formed .ensures) ∙ not-false _ (c .before .before .before .before .before .before .before .before .before .before .if1 .left)) (c .before .before .before .before .before .before .before .before .before .if2 .left) (sym (c .before .before .before .before .before .before .before .before .nothing-asked .ensures _) ∙ c .before .before .before .before .before .before .before .if3 .left) (which-case .ensures _) in
-    idled k _ p (if4 .left) _ (c .encoded5 .ensures) (sym (c .before .before .nothing-to-do .ensures _ (begins k _ p (if4 .left)) (due-is k _ p)) ∙ c .before .if5 .taken)
+    let p = asks k (which-case .result) (sym (c₉ .well-formed .ensures) ∙ not-false _ (c₈ .if1 .left)) (c₇ .if2 .left) (sym (c₆ .nothing-asked .ensures _) ∙ c₅ .if3 .left) (which-case .ensures _) in
+    idled k _ p (if4 .left) _ (c .encoded5 .ensures) (sym (c₂ .nothing-to-do .ensures _ (begins k _ p (if4 .left)) (due-is k _ p)) ∙ c₁ .if5 .taken)
 
 carried-out-requires : tie.Need-carried-out-requires
 carried-out-requires c κs =
-    let if4 = c .before .before .before .before .before .before .if4 in
-    let which-case = c .before .before .before .before .before .before .before .which-case in
-    let args = c .before .before .before .before .before .before .before .before .before .before .before .before .before .before .before .before .before .before .args in
+    let c₁ = c .before .before .before in
+    let c₂ = c₁ .before in
+    let c₃ = c₂ .before .before in
+    let if4 = c₃ .if4 in
+    let c₄ = c₃ .before in
+    let which-case = c₄ .which-case in
+    let c₅ = c₄ .before .before in
+    let c₆ = c₅ .before in
+    let c₇ = c₆ .before in
+    let c₈ = c₇ .before in
+    let c₉ = c₈ .before in
+    let c₁₀ = c₉ .before .before .before .before .before in
+    let args = c₁₀ .args in
     let k = call (args .s) (args .store .now) (args .clauses .now) (args .work .now) (args .lo) (args .end) in
-    let p = asks k (which-case .result) (sym (c .before .before .before .before .before .before .before .before .before .before .before .before .before .well-formed .ensures) ∙ not-false _ (c .before .before .before .before .before .before .before .before .before .before .before .before .if1 .left)) (c .before .before .before .before .before .before .before .before .before .before .before .if2 .left) (sym (c .before .before .before .before .before .before .before .before .before .before .nothing-asked .ensures _) ∙ c .before .before .before .before .before .before .before .before .before .if3 .left) (which-case .ensures _) in
-    (works k _ p (if4 .left) (sym (c .before .before .before .before .nothing-to-do .ensures _ (begins k _ p (if4 .left)) (due-is k _ p)) ∙ c .before .before .before .if5 .left), p .case-is)
+    let p = asks k (which-case .result) (sym (c₉ .well-formed .ensures) ∙ not-false _ (c₈ .if1 .left)) (c₇ .if2 .left) (sym (c₆ .nothing-asked .ensures _) ∙ c₅ .if3 .left) (which-case .ensures _) in
+    (works k _ p (if4 .left) (sym (c₂ .nothing-to-do .ensures _ (begins k _ p (if4 .left)) (due-is k _ p)) ∙ c₁ .if5 .left), p .case-is)
 
 same-length-11 : tie.Need-same-length-11
 same-length-11 c = search needs

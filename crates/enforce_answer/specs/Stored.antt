@@ -8,7 +8,7 @@ use Rattle.rules.specs.Build.{Build}
 use Rattle.records.specs.Carries.{Stores}
 
 -- the words store records with the nodes, outputs and entries of the build
-pub record Has (b : Build) (store : List ℕ) (records : ℕ) : Type 0 where
+pub record Stored (b : Build) (store : List ℕ) (records : ℕ) : Type 0 where
   pub rs : List Record
   pub stores : Stores store records rs
   pub node-is : (n : ℕ) → nodeAt (b .arena .records) n ≡ nodeAt rs n
