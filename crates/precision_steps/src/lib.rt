@@ -48,7 +48,7 @@ pub fn coarse(built: u64, tares: u32, u: u64) -> u64
     coarse_at(numbers::power(tares), u)
 }
 
-// 8: neither 0 nor a power of two. At most 63 turns.
+// Refusal 8: neither 0 nor a power of two. At most 63 turns.
 fn divisor_unlawful(divisor: u64) -> bool
     ensures { λ r. ⌜ r ≡ divisor-unlawful divisor ⌝ }
 {
@@ -68,7 +68,7 @@ fn divisor_of(divisor: u64) -> u64
     divisor
 }
 
-// 9: built, and the divisor above the last one set. Constant time.
+// Refusal 9: built, and the divisor above the last one set. Constant time.
 fn divisor_coarser(built: u64, set: u64, divisor: u64) -> bool
     ensures { λ r. ⌜ r ≡ not (eqb built 0) && ltb set (divisor-of divisor) ⌝ }
 {

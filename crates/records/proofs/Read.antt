@@ -73,30 +73,13 @@ dummy-other (leaf x) e = refl
 dummy-other (join half l r) e = absurd (false≢true (sym e))
 dummy-other dummy e = refl
 
--- a node's first word is 1, 2 or 3
-pub node-first : (k : Kind) (m h : ℕ) → (1 ≤ getD (node-image k m h) 0 0) × (getD (node-image k m h) 0 0 ≤ 3)
-unfolding node-image
-node-first (leaf x) m h = (omega arith, omega arith)
-node-first (join half l r) m h = (omega arith, omega arith)
-node-first dummy m h = (omega arith, omega arith)
-
--- an output, a waiting entry and a leaf by their words
-output-words : (r : Record) → getD (record-image r) 0 0 ≡ 4 →
-    (o : Output) × (r ≡ output o) × (getD (record-image r) 1 0 ≡ o .node) × (getD (record-image r) 2 0 ≡ o .value) ×
-    (getD (record-image r) 3 0 ≡ literal-word (pos (o .number)))
-unfolding record-image
-output-words (node n) = λ e. absurd (omega (arith, node-first (n .kind) (n .maximum) (n .height)))
-output-words (output o) = λ e. (o, refl, refl, refl, refl)
-output-words (waiting w) = λ e. absurd (omega arith)
-output-words unknown = λ e. absurd (omega arith)
-
-waiting-words : (r : Record) → getD (record-image r) 0 0 ≡ 5 →
-    (w : Entry) × (r ≡ waiting w) × (getD (record-image r) 1 0 ≡ w .node) × (getD (record-image r) 2 0 ≡ w .weight)
-unfolding record-image
-waiting-words (node n) = λ e. absurd (omega (arith, node-first (n .kind) (n .maximum) (n .height)))
-waiting-words (output o) = λ e. absurd (omega arith)
-waiting-words (waiting w) = λ e. (w, refl, refl, refl)
-waiting-words unknown = λ e. absurd (omega arith)
+-- a record that its readers call an output is one
+pub output-of : (r : Record) → is-output r ≡ true → (o : Output) × (r ≡ output o)
+unfolding is-output
+output-of (node n) e = absurd (false≢true e)
+output-of (output o) e = (o, refl)
+output-of (waiting w) e = absurd (false≢true e)
+output-of unknown e = absurd (false≢true e)
 
 -- what holds of every kind of record holds of any
 module _ (P : Record → Type 0) (of-leaf : (x : ℤ) (m h : ℕ) → P (node (record { kind = leaf x; maximum = m; height = h })))
@@ -198,37 +181,6 @@ unfolding record-image node-image is-node
 node-word = by-kind (λ r. cond (eqb (getD (record-image r) 0 0) 0) false (ltb (getD (record-image r) 0 0) 4) ≡ is-node r)
     (λ x m h. refl) (λ half l r m h. refl) (λ m h. refl) (λ o. refl) (λ e. refl) refl
 
--- a record of kind 4 is the output that its fields say, one of kind 5 the waiting entry
-module _ (r : Record) (f : Fields) (e : fields f ≡ record-image r) where
-  word : (k : ℕ) → getD (record-image r) k 0 ≡ getD (fields f) k 0
-  word k = ap (λ ws. getD ws k 0) (sym e)
-
-  pub fields-output : f .kind ≡ 4 → r ≡ output (record { node = f .a; value = f .b; number = f .c / 2 })
-  unfolding literal-word
-  fields-output k =
-      let (o, is, a, b, c) = output-words r (word 0 ∙ k) in
-      let third : getD (record-image r) 3 0 ≡ f .c = word 3 in
-      let number : o .number ≡ f .c / 2 = omega arith in
-      is ∙ (ap₂ (λ (y z : ℕ). output (record { node = y; value = z; number = o .number })) (sym a ∙ word 1) (sym b ∙ word 2) ∙
-      ap (λ (y : ℕ). output (record { node = f .a; value = f .b; number = y })) number)
-
-  pub fields-entry : f .kind ≡ 5 → r ≡ waiting (record { node = f .a; weight = f .b })
-  fields-entry k =
-      let (w, is, a, b) = waiting-words r (word 0 ∙ k) in
-      is ∙ ap₂ (λ (y z : ℕ). waiting (record { node = y; weight = z })) (sym a ∙ word 1) (sym b ∙ word 2)
-
-leaf-words : (r : Record) → getD (record-image r) 0 0 ≡ 1 → (x : ℤ) × (node-of r .kind ≡ leaf x) × (getD (record-image r) 1 0 ≡ literal-word x)
-unfolding record-image node-image node-of
-leaf-words (node n) = go (n .kind) (n .maximum) (n .height)
-  where
-    go : (k : Kind) (m h : ℕ) → getD (node-image k m h) 0 0 ≡ 1 → (x : ℤ) × (k ≡ leaf x) × (getD (node-image k m h) 1 0 ≡ literal-word x)
-    go (leaf x) m h e = (x, refl, refl)
-    go (join half l r) m h e = absurd (omega arith)
-    go dummy m h e = absurd (omega arith)
-leaf-words (output o) = λ e. absurd (omega arith)
-leaf-words (waiting w) = λ e. absurd (omega arith)
-leaf-words unknown = λ e. absurd (omega arith)
-
 -- the words s store rs
 module _ (s : List ℕ) (records : ℕ) (rs : List Record) (h : Stores s records rs) where
   within : 8 * records ≤ length s
@@ -266,29 +218,6 @@ module _ (s : List ℕ) (records : ℕ) (rs : List Record) (h : Stores s records
   pub height-is : (n : ℕ) → field-at s records n 5 ≡ nodeAt rs n .height
   unfolding nodeAt
   height-is n = field-is n 5 (omega arith) ∙ height-word (getD rs n unknown)
-
-  -- record n is an output, and its fields say of which node, which value, and which number
-  pub output-is : (n : ℕ) → field-at s records n 0 ≡ 4 →
-      (o : Output) × (getD rs n unknown ≡ output o) × (field-at s records n 1 ≡ o .node) × (field-at s records n 2 ≡ o .value) ×
-      (field-at s records n 3 ≡ literal-word (pos (o .number)))
-  output-is n e =
-      let r : Record = getD rs n unknown in
-      let w = output-words r (sym (field-is n 0 (omega arith)) ∙ e) in
-      (w .0, w .1, field-is n 1 (omega arith) ∙ w .2, field-is n 2 (omega arith) ∙ w .3, field-is n 3 (omega arith) ∙ w .4)
-
-  -- record n is a waiting entry, and its fields say which node and weight
-  pub waiting-is : (n : ℕ) → field-at s records n 0 ≡ 5 →
-      (w : Entry) × (getD rs n unknown ≡ waiting w) × (field-at s records n 1 ≡ w .node) × (field-at s records n 2 ≡ w .weight)
-  waiting-is n e =
-      let w = waiting-words (getD rs n unknown) (sym (field-is n 0 (omega arith)) ∙ e) in
-      (w .0, w .1, field-is n 1 (omega arith) ∙ w .2, field-is n 2 (omega arith) ∙ w .3)
-
-  -- node n is a leaf, and its field says the literal
-  pub leaf-is : (n : ℕ) → field-at s records n 0 ≡ 1 → (x : ℤ) × (nodeAt rs n .kind ≡ leaf x) × (field-at s records n 1 ≡ literal-word x)
-  unfolding nodeAt
-  leaf-is n e =
-      let w = leaf-words (getD rs n unknown) (sym (field-is n 0 (omega arith)) ∙ e) in
-      (w .0, w .1, field-is n 1 (omega arith) ∙ w .2)
 
   -- a reader of the kind, and one of a word of records of a kind
   pub kind-tells : (f : Record → Bool) (k : ℕ) → Kinded f k → (n x : ℕ) → x ≡ field-at s records n 0 → eqb x k ≡ f (getD rs n unknown)

@@ -1,6 +1,6 @@
 -- Old outputs extended one record after the other, and one bucket after the other: the rule only appends, so the old records stand.
 use mathlib.Core.Path.{_≡_, refl, sym, ap, _∙_, subst}
-use mathlib.Core.Bool.{Bool, true, false, cond}
+use mathlib.Core.Bool.{Bool, true, false, cond, false≢true}
 use mathlib.Core.List.{List, [], _∷_, _++_, map, reverse}
 use Prim.Native.Nat.{ℕ, zero, suc, _+_, _-_, _≤_, _<_}
 use native.Mathlib.Omega.{arith}
@@ -10,16 +10,16 @@ use lib.Seq.{take-append-le, length-take-le, drop-cons, getD-take}
 use lib.IntN.{ℤ, pos}
 use borrow.Author.Tests.{eq-eqb, ne-eqb}
 use Rattle.rules.specs.Lists.{keep, in-turn}
-use Rattle.rules.specs.Records.{Record, node, output, waiting, unknown, Output, outputs, literal-word, record-image}
+use Rattle.rules.specs.Records.{Record, node, output, waiting, unknown, Output, outputs, literal-word}
 use Rattle.rules.specs.Totalizer.{Arena, write, take-number}
 use Rattle.rules.specs.Refinement.{former-half, extend, extend-bucket}
 use Rattle.laws.specs.Totalizer.Defines.{extend-keeps}
 use Rattle.laws.specs.Records.Places.{outputs-append}
 use Rattle.records.specs.declared.Marks.{Marks}
-use Rattle.records.specs.Words.{field-at}
-use Rattle.records.specs.Carries.{St, st, marksOf, Carries, Steps}
+use Rattle.records.specs.Readers.{is-output, output-node, output-value, output-number}
+use Rattle.records.specs.Carries.{St, st, marksOf, Carries, Steps, Stores}
 use Rattle.records.proofs.Grow.{Grows}
-use Rattle.records.proofs.Read.{field-is, output-is}
+use Rattle.records.proofs.Read.{output-of}
 use Rattle.records.proofs.Step.{steps-none, stop, held}
 use Rattle.refine_links.proofs.Slots.{reverse-last}
 use Rattle.totalizer_define.proofs.Growth.{turns-grow, extend-grows}
@@ -74,10 +74,10 @@ unfolding extend-at
 at-stop σ n most i k = stop σ (extend-at n most i) (λ t. each-grows n most (getD (t .records) i unknown ∷ []) t) k
 
 -- a record that is no output
-no-output : (r : Record) → (getD (record-image r) 0 0 ≡ 4 → ⊥) → outputs (r ∷ []) ≡ []
-unfolding outputs record-image
+no-output : (r : Record) → is-output r ≡ false → outputs (r ∷ []) ≡ []
+unfolding outputs is-output
 no-output (node x) h = refl
-no-output (output o) h = absurd (h refl)
+no-output (output o) h = absurd (false≢true (sym h))
 no-output (waiting w) h = refl
 no-output unknown h = refl
 
@@ -97,37 +97,40 @@ output-one : (r : Record) (o : Output) → r ≡ output o → outputs (r ∷ [])
 unfolding outputs
 output-one r o e = rw e refl
 
-module _ (s : List ℕ) (c : List ℤ) (m : Marks) (n most i k : ℕ) (going : m .full ≡ false) (ek : k ≡ field-at s (m .records) i 0) where
-  pub at-none : (k ≡ 4 → ⊥) → Steps (st s c m) (st s c m) (extend-at n most i)
+module _ (s : List ℕ) (c : List ℤ) (m : Marks) (n most i : ℕ) (b : Bool) (going : m .full ≡ false)
+    (eb : (rs : List Record) → Stores s (m .records) rs → b ≡ is-output (getD rs i unknown)) where
+  pub at-none : b ≡ false → Steps (st s c m) (st s c m) (extend-at n most i)
   unfolding extend-at
-  at-none ne =
+  at-none other =
       held s c m (st s c m) (extend-at n most i) going (λ t at f. (
         (λ u. u),
         steps-none (st s c m),
-        none-each n most (getD (t .records) i unknown ∷ []) t
-            (no-output (getD (t .records) i unknown) (λ q. ne (ek ∙ (field-is s (m .records) (t .records) at i 0 (omega arith) ∙ q)))),
+        none-each n most (getD (t .records) i unknown ∷ []) t (no-output (getD (t .records) i unknown) (sym (eb (t .records) at) ∙ other)),
       ))
 
-  module _ (is : k ≡ 4) (x : ℕ) (ex : x ≡ field-at s (m .records) i 1) where
+  module _ (is : b ≡ true) (x : ℕ) (ex : (rs : List Record) → Stores s (m .records) rs → x ≡ output-node (getD rs i unknown)) where
     pub at-other : (x ≡ n → ⊥) → Steps (st s c m) (st s c m) (extend-at n most i)
-    unfolding extend-at
+    unfolding extend-at output-node
     at-other ne =
         held s c m (st s c m) (extend-at n most i) going (λ t at f.
-        let w = output-is s (m .records) (t .records) at i (sym ek ∙ is) in (
+        let r : Record = getD (t .records) i unknown in
+        let w = output-of r (sym (eb (t .records) at) ∙ is) in (
           (λ u. u),
           steps-none (st s c m),
-          other-each n most (getD (t .records) i unknown ∷ []) (w .0) t (output-one (getD (t .records) i unknown) (w .0) (w .1)) (λ q. ne (ex ∙ (w .2 ∙ q))),
+          other-each n most (r ∷ []) (w .0) t (output-one r (w .0) (w .1)) (λ q. ne (ex (t .records) at ∙ (ap output-node (w .1) ∙ q))),
         ))
 
-    pub at-done : (v o : ℕ) (τ : St) → x ≡ n → v ≡ field-at s (m .records) i 2 → o ≡ field-at s (m .records) i 3 →
+    pub at-done : (v o : ℕ) (τ : St) → x ≡ n → ((rs : List Record) → Stores s (m .records) rs → v ≡ output-value (getD rs i unknown)) →
+        ((rs : List Record) → Stores s (m .records) rs → o ≡ output-number (getD rs i unknown)) →
         ((w : Output) → v ≡ w .value → o ≡ literal-word (pos (w .number)) → Steps (st s c m) τ (λ t. extend n most t w)) → Steps (st s c m) τ (extend-at n most i)
-    unfolding extend-at
+    unfolding extend-at output-node output-value output-number
     at-done v o τ here ev eo p =
         held s c m τ (extend-at n most i) going (λ t at f.
-        let w = output-is s (m .records) (t .records) at i (sym ek ∙ is) in (
+        let r : Record = getD (t .records) i unknown in
+        let w = output-of r (sym (eb (t .records) at) ∙ is) in (
           (λ u. extend n most u (w .0)),
-          p (w .0) (ev ∙ w .3) (eo ∙ w .4),
-          one-each n most (getD (t .records) i unknown ∷ []) (w .0) t (output-one (getD (t .records) i unknown) (w .0) (w .1)) (sym (w .2) ∙ (sym ex ∙ here)),
+          p (w .0) (ev (t .records) at ∙ ap output-value (w .1)) (eo (t .records) at ∙ ap output-number (w .1)),
+          one-each n most (r ∷ []) (w .0) t (output-one r (w .0) (w .1)) (sym (ap output-node (w .1)) ∙ (sym (ex (t .records) at) ∙ here)),
         ))
 
 -- The records in turn -----------------------------------------------------------------------------------------------------------------

@@ -27,14 +27,14 @@ fn extend_record(
         return m;
     }
     let n = m.records;
-    if records::field(store, n, i, records::KIND) != records::OUTPUT {
+    if !records::is_output(store, n, i) {
         return m;
     }
-    if records::field(store, n, i, records::NODE) != node {
+    if records::output_node(store, n, i) != node {
         return m;
     }
-    let v = records::field(store, n, i, records::VALUE);
-    let o = records::field(store, n, i, records::NUMBER);
+    let v = records::output_value(store, n, i);
+    let o = records::output_number(store, n, i);
     totalizer_define::extend(store, clauses, m, node, most, v, o)
 }
 
