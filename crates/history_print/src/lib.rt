@@ -54,7 +54,7 @@ pub fn digest_words(s: &[u32], from: usize, to: usize) {
     digest(from, to, h);
 }
 
-// The same of clause words. Linear in them.
+// The digest of clause words from one place up to another, by their literals' words, printed behind their count. Linear in them.
 pub fn digest_literals(c: &[i32], from: usize, to: usize) {
     let mut h: u64 = 0;
     let mut i = from;

@@ -60,7 +60,7 @@ pub fn power_of_two(x: u64) -> bool
 }
 
 // Whether x is a literal: not 0, its variable at most 1,000,000,000. Constant time.
-pub fn lawful(x: i32) -> bool
+fn lawful(x: i32) -> bool
     ensures { λ r. ⌜ r ≡ lawful x ⌝ }
 {
     if x < LEAST {
@@ -76,7 +76,7 @@ pub fn lawful(x: i32) -> bool
 }
 
 // The word of a literal, 0 for a number that is none. Constant time.
-pub fn literal_word(x: i32) -> u32
+fn literal_word(x: i32) -> u32
     ensures { λ r. ⌜ r ≡ word-or-none x ⌝ }
 {
     if x < LEAST {
@@ -139,7 +139,7 @@ pub fn negated(w: u32) -> u32
 }
 
 // The signed number of a word. Constant time.
-pub fn signed(w: u32) -> i32
+fn signed(w: u32) -> i32
     ensures { λ r. ⌜ r ≡ word-literal w ⌝ }
 {
     let v = (w / 2) as i32;

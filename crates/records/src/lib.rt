@@ -42,16 +42,16 @@ pub const B: usize = 2;
 pub const C: usize = 3;
 
 // The place of a leaf's literal.
-pub const LITERAL: usize = A;
+const LITERAL: usize = A;
 
 // The place of a join's left side.
-pub const LEFT: usize = A;
+const LEFT: usize = A;
 
 // The place of a join's right side.
 pub const RIGHT: usize = B;
 
 // The place of a join's halving.
-pub const HALVED: usize = C;
+const HALVED: usize = C;
 
 // The place of an output's or a waiting entry's node.
 pub const NODE: usize = A;
@@ -93,7 +93,7 @@ pub struct Marks {
     pub full: bool,
 }
 
-// The words of a record by their places; the last two are 0.
+// The words of a record by their places; the last two are 0. What a, b and c hold is said with each kind.
 pub struct Fields {
     pub kind: u32,
     pub a: u32,

@@ -22,7 +22,7 @@ pub struct Made {
 }
 
 // A record of these words. Constant time.
-pub fn append(s: &mut [u32], m: Marks, x: Fields) -> Made
+fn append(s: &mut [u32], m: Marks, x: Fields) -> Made
     ensures { λ z. ⌜ ((c : List ℤ) (r : Record) → record-image r ≡ fields x → Makes (st (now (s .entry)) c m) (st (now (s .exit)) c (z .marks)) (z .node) (placed r)) ⌝ }
 {
     if m.full {

@@ -28,7 +28,8 @@ pub fn enforce_count(
     a.count
 }
 
-// The answer as the front part of the caller's own scratch, where the scratch starts. Growth as before.
+// The answer as the front part of the caller's own scratch, where the scratch starts. As the test of well formed grows, and
+// linear in the records.
 pub fn enforce_ub<'a>(
     s: State,
     store: &[u32],
