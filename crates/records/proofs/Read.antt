@@ -8,12 +8,11 @@ use lib.Dec.{eqb, ltb}
 use lib.ListN.{length, getD, length-take, List·getD-eq-default, getD-replicate}
 use lib.Seq.{getD-take}
 use borrow.Author.Tests.{ltb-true, ltb-false, lt-ltb, eq-eqb, ne-eqb}
-use lib.IntN.{ℤ, pos}
-use Rattle.rules.specs.Records.{Kind, leaf, join, dummy, Output, Entry, literal-word, Record, node, output, waiting, unknown, node-image, record-image, node-of, nodeAt, dummy-node, left-link, right-link, waits}
+use lib.IntN.{ℤ}
+use Rattle.rules.specs.Records.{Kind, leaf, join, dummy, Output, Entry, Record, node, output, waiting, unknown, node-image, record-image, node-of, nodeAt, dummy-node, left-link, right-link, waits}
 use Rattle.rules.specs.WellFormed.{is-node, is-leaf, is-dummy}
 use Rattle.laws.specs.Records.Words.{image-length}
 use Rattle.laws.specs.Records.Places.{place}
-use Rattle.records.specs.declared.Fields.{Fields}
 use Rattle.records.specs.Words.{field-at, held-at, fields}
 use Rattle.records.specs.Readers.{is-join, is-halved, leaf-word, is-output, output-node, output-value, output-number, entry-node, entry-weight}
 use Rattle.records.specs.Carries.{Stores, size}

@@ -4,7 +4,7 @@ use mathlib.Core.Path.{_≡_}
 use mathlib.Core.Bool.{true, false}
 use mathlib.Core.List.{List, [], _∷_, _++_}
 use Prim.Native.Nat.{ℕ, _+_, _*_, _≤_, _<_, max}
-use lib.ListN.{length, take, drop}
+use lib.ListN.{length, take}
 use lib.IntN.{ℤ}
 use Rattle.rules.specs.Records.{Record, node-of, imageOf, recordsOf}
 use Rattle.rules.specs.Totalizer.{Arena}

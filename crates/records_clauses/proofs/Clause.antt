@@ -13,11 +13,10 @@ use Rattle.rules.specs.Totalizer.{Arena}
 use Rattle.rules.specs.Build.{clause-words}
 use Rattle.numbers.specs.Signed.{put-signed}
 use Rattle.records.specs.declared.Marks.{Marks}
-use Rattle.records_clauses.specs.Clauses.{side-of, Buf, buf, push, push-side, push-clause, more-of}
+use Rattle.records_clauses.specs.Clauses.{side-of, Buf, buf, push, push-side, push-clause, more-of, with-clause, clause-of}
 use Rattle.records.specs.Words.{full-of}
 use Rattle.records.specs.Carries.{St, st, bufferOf, marksOf, written, Steps}
 use Rattle.records_words.specs.Words.{laid}
-use Rattle.records_clauses.specs.Clauses.{with-clause, clause-of}
 use Rattle.records_words.proofs.Lay.{laid-length, laid-sets}
 use Rattle.records.proofs.Image.{words-append}
 use Rattle.records.proofs.Grow.{Grows}

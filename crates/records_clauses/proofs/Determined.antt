@@ -1,6 +1,5 @@
 -- Any two results that the promise of a public function allows are equal wherever the arena that it leads to fits, and they agree on
 -- the full mark everywhere.
-use mathlib.Core.Path.{_≡_}
 use mathlib.Core.List.{List}
 use Prim.Native.Nat.{ℕ}
 use borrow.Fn.Kinds.{Dens, resT, endedOf}

@@ -9,10 +9,9 @@ use Rattle.rules.specs.Records.{Record, literal-word, word-literal}
 use Rattle.rules.specs.Totalizer.{Arena, asks, pairs-from, side, clause, write, take-number}
 use Rattle.laws.specs.Records.Words.{literal-word-literal}
 use Rattle.records.specs.declared.Marks.{Marks}
-use Rattle.records_clauses.specs.Clauses.{side-of}
+use Rattle.records_clauses.specs.Clauses.{side-of, with-clause, clause-of}
 use Rattle.records.specs.Words.{full-of}
 use Rattle.records.specs.Carries.{St, st, Steps, Stores}
-use Rattle.records_clauses.specs.Clauses.{with-clause, clause-of}
 use Rattle.records_clauses.proofs.Clause.{clause-grows}
 use Rattle.records.proofs.Step.{steps-then, stop, filled, held, Rest, rest-turn}
 use Rattle.totalizer_clauses.proofs.Growth.{finish-grows}

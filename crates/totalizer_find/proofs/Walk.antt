@@ -9,7 +9,7 @@ use lib.ListN.{length, getD, drop, drop-of-length-le}
 use lib.Seq.{drop-cons}
 use lib.IntN.{ℤ, pos, negℤ}
 use borrow.Author.Tests.{eq-eqb, ne-eqb, eqb-true, eqb-false}
-use Rattle.rules.specs.Records.{Kind, leaf, join, dummy, Record, node, output, waiting, unknown, node-of, nodeAt, node-image, record-image, literal-word, word-literal, outputs}
+use Rattle.rules.specs.Records.{Kind, leaf, join, dummy, Record, node, output, waiting, unknown, nodeAt, node-image, record-image, literal-word, word-literal, outputs}
 use Rattle.rules.specs.WellFormed.{is-leaf}
 use Rattle.rules.specs.Totalizer.{number-in, number-of, literal-of, side}
 use Rattle.laws.specs.Records.Words.{literal-word-literal, word-not-one}

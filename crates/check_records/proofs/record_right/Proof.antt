@@ -1,7 +1,6 @@
 -- `record_right` tests a record by its kind.
 use mathlib.Core.Path.{sym, _∙_}
 use borrow.Author.Needs.{needs}
-use borrow.Author.Tests.{not-true, not-false}
 use Rattle.rules.specs.Records.{nodeAt}
 use Rattle.check_records.proofs.Right.{right-output, right-entry, right-node}
 use Rattle.check_records.proofs.record_right.Statement.{statement}

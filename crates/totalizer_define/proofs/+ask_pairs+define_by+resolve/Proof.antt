@@ -1,6 +1,6 @@
 -- An output asks its connections and a connection asks its node; each call asks for less height. `ask_pairs` goes through the pairs: what is left, asked for from here, is all.
 use mathlib.Core.Path.{_≡_, refl, _∙_}
-use Prim.Native.Nat.{_≤_, _+_, _-_, _*_}
+use Prim.Native.Nat.{_≤_, _+_, _-_, _*_, ℕ, _<_}
 use native.Mathlib.Omega.{arith}
 use borrow.Author.Needs.{needs}
 use borrow.Author.Tests.{not-true, not-false}
@@ -12,7 +12,6 @@ use Rattle.records.proofs.Step.{Rest, rest-start, rest-end}
 use Rattle.totalizer_clauses.proofs.PairWalk.{asks-later, asks-whole}
 use Rattle.totalizer_define.proofs.Pairs.{pairs-end}
 use Rattle.totalizer_define.proofs.Defining.{ask-none, ask-some, asks-turn, def-zero, def-stop, def-other, def-found, def-done}
-use Prim.Native.Nat.{ℕ, _<_}
 use borrow.Fn.Kinds.{In}
 use borrow.Fn.PlainCycle.{Measures, is, falls, and}
 use Rattle.totalizer_define.proofs.ask_pairs.Reads as ask-pairs
