@@ -6,16 +6,10 @@ use denote.Triple.Clauses.{AtExit}
 use contract.Lifetimes.{Lfts}
 use Rattle.rules.specs.Records.{Record}
 use Rattle.records.specs.Carries.{Stores}
-use Rattle.records_waiting.proofs.waits.Kinds as waits-kinds
-use Rattle.records_waiting.proofs.waits.Reads as waits
 use Rattle.records_waiting.proofs.largest.Kinds as largest-kinds
 use Rattle.records_waiting.proofs.largest.Reads as largest
 use Rattle.records_waiting.proofs.some_wait.Kinds as some-wait-kinds
 use Rattle.records_waiting.proofs.some_wait.Reads as some-wait
-
-pub waits-determined : (κs : Lfts 1) (a : Dens κs waits-kinds.ps) (x y : resT waits-kinds.r κs .Denot) (e f : AtExit (endedOf 1 waits-kinds.ps waits-kinds.r) κs) →
-    waits.Post κs a x e → waits.Post κs a y f → (rs : List Record) → Stores (a .0 .now) (a .1 .0) rs → x ≡ y
-waits-determined κs a x y e f p q rs h = p rs h ∙ sym (q rs h)
 
 pub largest-determined : (κs : Lfts 1) (a : Dens κs largest-kinds.ps) (x y : resT largest-kinds.r κs .Denot) (e f : AtExit (endedOf 1 largest-kinds.ps largest-kinds.r) κs) →
     largest.Post κs a x e → largest.Post κs a y f → (rs : List Record) → Stores (a .0 .now) (a .1 .0) rs → x ≡ y
