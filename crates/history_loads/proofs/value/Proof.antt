@@ -17,8 +17,8 @@ loop-holds c = omega arith
 is-output-requires : tie.Need-is-output-requires Inv-loop μ-loop
 is-output-requires c κs = search needs
 
-field-requires : tie.Need-field-requires Inv-loop μ-loop
-field-requires c κs = search needs
+output-value-requires : tie.Need-output-value-requires Inv-loop μ-loop
+output-value-requires c κs = search needs
 
 returns : tie.Need-returns Inv-loop μ-loop
 returns c = search needs
@@ -43,7 +43,7 @@ value-spec =
     μ-loop
     loop-holds
     is-output-requires
-    field-requires
+    output-value-requires
     returns
     add-i
     loop-less
