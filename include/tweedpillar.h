@@ -21,10 +21,10 @@ extern "C" {
 
 /* The refusal numbers; 0 is none. */
 enum {
-    TWEEDPILLAR_LISTS_DIFFER = 1,      /* literals and weights differ in length, or are over 256 */
+    TWEEDPILLAR_LISTS_DIFFER = 1,      /* literals and weights differ in length, or are over 256 lines as sent */
     TWEEDPILLAR_LITERAL = 2,           /* a literal is 0, or its variable is above 1000000000 */
-    TWEEDPILLAR_LITERAL_TWICE = 3,     /* a literal stands twice; x and -x are distinct */
-    TWEEDPILLAR_WEIGHT = 4,            /* a weight is 0 or above 1048575 */
+    TWEEDPILLAR_LITERAL_TWICE = 3,     /* no longer given: lines of one literal are combined; the number stays reserved */
+    TWEEDPILLAR_WEIGHT = 4,            /* a weight is 0 or above 1048575, or the weights of one literal add to more */
     TWEEDPILLAR_FIRST_FRESH = 5,       /* the first fresh number is 0, above 1000000000, or not above every variable */
     TWEEDPILLAR_WORK_SHORT = 6,        /* the work slice is shorter than 16384 words */
     TWEEDPILLAR_NO_ROOM = 7,           /* store, clause buffer, numbers or scratch do not suffice */
@@ -78,8 +78,9 @@ typedef struct {
     uint64_t value;
 } tweedpillar_value;
 
-/* A new build at divisor 1 over these literals and weights; fresh variables are numbered from `first` on.
- * Refuses 1, 2, 3, 4, 5, then 7 where the store has fewer than 16 words an input.
+/* A new build at divisor 1 over these lines, a literal and its weight each; fresh variables are numbered from `first` on.
+ * Lines that name one literal are combined: it is one input, at the place of its first line, with their weights added up;
+ * x and -x are two. Refuses 1, 2, 4, 5, then 7 where the store has fewer than 16 words an input.
  * Accepted: the store holds a record of each input and one that it waits, zeros after them; the clause buffer is all 0.
  * Refused: the state is all 0, which every later call refuses by 12; nothing is written. */
 tweedpillar_answered tweedpillar_start(

@@ -69,7 +69,8 @@ class World:
         before = Lent(None, tuple(store), tuple(clauses), ())
         refusal, state = ref.start(lits, weights, first, store, clauses)
         if refusal == 0:
-            self.state, self.store, self.clauses, self.lits, self.weights = state, store, clauses, lits, weights
+            self.state, self.store, self.clauses = state, store, clauses
+            self.lits, self.weights = ref.combined(lits, weights)
         return Call(step, refusal, None, before, Lent(state, tuple(store), tuple(clauses), ()))
 
     def call(self, step, *args):
@@ -173,12 +174,24 @@ class Writer:
         if rng.random() < 0.25:
             shift = rng.randint(1, 3)
             weights = [min(weight, ref.MOST_WEIGHT >> shift) << shift for weight in weights]
+        for _ in range(rng.choice([0, 0, 0, 1, 1, 3])):
+            lits, weights = self.named_again(lits, weights)
         return lits, weights
+
+    def named_again(self, lits, weights):
+        """The same combined list by one line more: a part of some line's weight stands in a line of its own."""
+        heavy = [n for n, weight in enumerate(weights) if weight > 1]
+        if not heavy:
+            return lits, weights
+        at = self.rng.choice(heavy)
+        place, part = self.rng.randint(at + 1, len(lits)), self.rng.randint(1, weights[at] - 1)
+        weights = replaced(weights, at, weights[at] - part)
+        return lits[:place] + [lits[at]] + lits[place:], weights[:place] + [part] + weights[place:]
 
     def first_start(self):
         lits, weights = self.lawful_lists()
         first = max(map(abs, lits), default=0) + self.rng.choice([1, 1, 1, 2, 10])
-        store_words = 16 * len(lits) + self.rng.choice([0, 0, 3, 8, 21])
+        store_words = 16 * len(set(lits)) + self.rng.choice([0, 0, 3, 8, 21])
         self.step("start", lits, weights, first, store_words, self.rng.choice([0, 1, 5]))
 
     def refused_start(self):
@@ -187,23 +200,23 @@ class Writer:
         lits, weights = self.lawful_lists()
         if len(lits) < 2:
             lits, weights = [3, -1], [2, 5]
-        first, store_words = max(map(abs, lits)) + 1, 16 * len(lits)
+        first, store_words = max(map(abs, lits)) + 1, 16 * len(set(lits))
         at = rng.randrange(len(lits))
-        for fault in rng.sample([1, 2, 3, 4, 5, 7], rng.choice([1, 1, 2])):
+        for fault in rng.sample([1, 2, 4, 4, 5, 7], rng.choice([1, 1, 2])):
             if fault == 1 and rng.random() < 0.1:
                 lits, weights, first = list(range(1, 258)), [1] * 257, 258
             elif fault == 1:
                 weights = weights + [1] if rng.random() < 0.5 else weights[:-1]
             elif fault == 2:
                 lits = replaced(lits, at, rng.choice([0, 1_000_000_001, -1_000_000_001, -(2**31), 2**31 - 1]))
-            elif fault == 3:
-                lits = replaced(lits, at, lits[at - 1])
+            elif fault == 4 and rng.random() < 0.5:
+                lits, weights = lits + [lits[at]], weights + [ref.MOST_WEIGHT - rng.choice([0, 0, 1, 2])]
             elif fault == 4:
                 weights = replaced(weights, at % len(weights), rng.choice([0, ref.MOST_WEIGHT + 1, 2**40, WORD_64]))
             elif fault == 5:
                 first = rng.choice([0, 1_000_000_001, WORD_32, first - 1])
             else:
-                store_words = rng.choice([16 * len(lits) - 1, 0])
+                store_words = rng.choice([16 * len(set(lits)) - 1, 0])
         self.step("start", lits, weights, first, store_words, rng.choice([0, 2]))
 
     # the later calls

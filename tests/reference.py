@@ -1,7 +1,7 @@
 #!/usr/bin/env python3
-"""Document 01 over words in plain Python: the seven calls, what each answers, what every lent word holds afterwards.
+"""Document 01, as document 02's asks amend it, over words in plain Python: the seven calls, what each answers, what every lent word holds afterwards.
 
-Written from the document alone. tests/agree compares it with the definitions of crates/rules, tests/brute with
+Written from the documents alone. tests/agree compares it with the definitions of crates/rules, tests/brute with
 demand 3; run by itself it checks the worked cases P1 to P9. A refusal is its number, 0 stands for none. Lent lists
 are changed in place, as lent slices are; a state is a value.
 """
@@ -490,10 +490,19 @@ def start(lits, weights, first, store, clauses):
     refusal = start_refusal(lits, weights, first, store)
     if refusal:
         return refusal, ZERO
+    lits, weights = combined(lits, weights)
     records = [Leaf(literal) for literal in lits] + [Waiting(n, weight) for n, weight in enumerate(weights)]
     lay(list(chain.from_iterable(map(image, records))), store)
     lay([], clauses)
     return 0, ZERO._replace(inputs=len(lits), sum=sum(weights), set=1, records=len(records), fresh=first)
+
+
+def combined(lits, weights):
+    """The combined list (Ask 4): first places kept in order, weights added."""
+    added = {}
+    for literal, weight in zip(lits, weights):
+        added[literal] = added.get(literal, 0) + weight
+    return list(added), list(added.values())
 
 
 def start_refusal(lits, weights, first, store):
@@ -501,13 +510,12 @@ def start_refusal(lits, weights, first, store):
         return 1
     if not all(map(lawful_literal, lits)):
         return 2
-    if len(set(lits)) != len(lits):
-        return 3
-    if not all(map(lawful_weight, weights)):
+    inputs, added = combined(lits, weights)
+    if not all(map(lawful_weight, weights)) or any(weight > MOST_WEIGHT for weight in added):
         return 4
     if not 1 <= first <= MOST_VARIABLE or any(abs(literal) >= first for literal in lits):
         return 5
-    if capacity(store) < 2 * len(lits):
+    if capacity(store) < 2 * len(inputs):
         return 7
     return 0
 
@@ -736,7 +744,7 @@ class Room:
     """Lent slices of one caller and the calls over them, each keeping the state that it answers."""
 
     def __init__(self, lits, weights, first, records=100, words=1000):
-        self.lits, self.weights = lits, weights
+        self.lits, self.weights = combined(lits, weights)
         self.store, self.clauses, self.work = [9] * (8 * records), [9] * words, [9] * WORK_WORDS
         self.refusal, self.state = start(lits, weights, first, self.store, self.clauses)
 
@@ -857,9 +865,35 @@ def most_inputs():
     yield "at the sum less 1", room.enforce(sum(weights) - 1)[0], 0
 
 
+def twice():
+    """Ask 4: the same volume twice."""
+    for lits, weights, inputs, added in (
+        ([1, 2, 1], [1, 2, 2], [1, 2], [3, 2]),
+        ([1, -1, 1], [1, 2, 4], [1, -1], [5, 2]),
+        ([3, 3, 3], [1, 1, 1], [3], [3]),
+    ):
+        room, once = Room(lits, weights, 5, 6), Room(inputs, added, 5, 6)
+        yield f"{lits} combined", (room.refusal, room.state, room.store), (0, once.state, once.store)
+        yield f"{lits} encoded", (room.encode(0, 2), room.state, room.clauses), (once.encode(0, 2), once.state, once.clauses)
+    for lits, weights, records, refusal in (
+        ([1] * 256, [1] * 256, 2, 0),
+        ([1] * 257, [1] * 257, 2, 1),
+        ([1, 1], [1, 1], 1, 7),
+        ([1, 1], [MOST_WEIGHT, 1], 2, 4),
+        ([1, 1], [MOST_WEIGHT - 1, 1], 2, 0),
+        ([1, 1], [0, 1], 2, 4),
+        ([1, 1], [2**63, 2**63], 2, 4),
+        ([0, 1], [0, 1], 2, 2),
+        ([7, 7], [1, MOST_WEIGHT], 2, 4),
+        ([7, 7], [1, 1], 2, 5),
+    ):
+        room = Room(lits, weights, 7, records)
+        yield f"{len(lits)} lines of {lits[:2]}, {weights[:2]}", room.refusal, refusal
+
+
 def self_test():
     passed = failed = 0
-    for case in (p1, p2, p3, p5, p6, p8, p9, most_inputs):
+    for case in (p1, p2, p3, p5, p6, p8, p9, most_inputs, twice):
         for name, found, expected in case():
             if found == expected:
                 passed += 1

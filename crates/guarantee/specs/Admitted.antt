@@ -10,6 +10,7 @@ use lib.ListN.{length}
 use lib.IntN.{ℤ}
 use Rattle.rules.specs.declared.State.{State}
 use Rattle.rules.specs.Build.{Build, stateOf}
+use Rattle.rules.specs.Combined.{combined-literals, combined-weights}
 use Rattle.rules.specs.Start.{start-refusal, new-build}
 use Rattle.rules.specs.Enforce.{enforce, enforce-ub}
 use Rattle.preserve.specs.Starts.{lent}
@@ -40,13 +41,20 @@ state-divisors : (m : Memory) (b : Build) → Shows m b → (m .state .set ≡ b
 unfolding stateOf
 state-divisors m b s = (ap (λ (st : State). st .set) (s .state-is), ap (λ (st : State). st .built) (s .state-is))
 
-module _ (xs : List ℤ) (ws : List ℕ) (first : ℕ) (store : List ℕ) (clauses : List ℤ) (accepted-start : start-refusal xs ws first store ≡ 0) (two : 2 ≤ length xs)
-    (m : Memory) (run : Run (started xs ws first store clauses) m) where
+module _ (lits : List ℤ) (weights : List ℕ) (first : ℕ) (store : List ℕ) (clauses : List ℤ) (accepted-start : start-refusal lits weights first store ≡ 0) (two : 2 ≤ length (combined-literals lits))
+    (m : Memory) (run : Run (started lits weights first store clauses) m) where
+  -- the inputs: the combined list
+  abbrev pub xs : List ℤ
+  xs = combined-literals lits
+
+  abbrev pub ws : List ℕ
+  ws = combined-weights lits weights
+
   begun : World xs ws (new-build xs ws first)
-  begun = started-world xs ws first store (lent xs ws first store accepted-start)
+  begun = started-world xs ws first store (lent lits weights first store accepted-start)
 
   reached : Goes (new-build xs ws first) m
-  reached = run-goes xs ws (new-build xs ws first) begun (started xs ws first store clauses) m (start-shows xs ws first store clauses accepted-start) run
+  reached = run-goes xs ws (new-build xs ws first) begun (started lits weights first store clauses) m (start-shows lits weights first store clauses accepted-start) run
 
   b : Build
   b = reached .build
@@ -59,7 +67,7 @@ module _ (xs : List ℤ) (ws : List ℕ) (first : ℕ) (store : List ℕ) (claus
   promise : (u : ℕ) (answer : List ℤ) → enforce b u ≡ some answer → Promises xs ws m u answer
   unfolding b
   promise u [] e =
-      subst (λ (d : ℕ). sum-of xs ws d (λ x. true) ≤ u) (sym (state-divisors m b (reached .shows) .0)) (promised-empty xs ws first store accepted-start two b (reached .leads) u e)
+      subst (λ (d : ℕ). sum-of xs ws d (λ x. true) ≤ u) (sym (state-divisors m b (reached .shows) .0)) (promised-empty lits weights first store accepted-start two b (reached .leads) u e)
   promise u (l ∷ ls) e = λ n later.
       let g : Goes b n = run-goes xs ws b w m n (reached .shows) later in
       let w′ : World xs ws (g .build) = leads-world xs ws b (g .build) w (g .leads) in
@@ -69,7 +77,7 @@ module _ (xs : List ℤ) (ws : List ℕ) (first : ℕ) (store : List ℕ) (claus
       (subst (λ (d : ℕ). Promised xs ws d (m .state .built) u (l ∷ ls) (n .state .built) (g .build .arena .clauses)) (sym ms)
       (subst (λ (d : ℕ). Promised xs ws (b .set) d u (l ∷ ls) (n .state .built) (g .build .arena .clauses)) (sym mb)
       (subst (λ (d : ℕ). Promised xs ws (b .set) (b .built) u (l ∷ ls) d (g .build .arena .clauses)) (sym nb)
-      (promised xs ws first store accepted-start two b (reached .leads) u l ls e (g .build) (g .leads)))))
+      (promised lits weights first store accepted-start two b (reached .leads) u l ls e (g .build) (g .leads)))))
 
   -- What an answer admits: two or more inputs, any calls after an accepted start, and a bound u that enforce does not refuse
   pub answer-promise : (scratch : List ℤ) (u : ℕ) → enforce-ub (m .state) (m .store) (m .clauses) scratch u .refusal ≡ 0 →

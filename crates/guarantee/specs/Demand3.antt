@@ -17,6 +17,7 @@ use Rattle.rules.specs.Digits.{top-bit}
 use Rattle.rules.specs.Records.{nodeAt}
 use Rattle.rules.specs.Totalizer.{number-of}
 use Rattle.rules.specs.Build.{Build, unbuilt, output-weight, root, root-node, largest}
+use Rattle.rules.specs.Combined.{combined-literals, combined-weights}
 use Rattle.rules.specs.Start.{start-refusal, new-build}
 use Rattle.rules.specs.Enforce.{set-tares, output-answer, root-answer, built-answer, enforce}
 use Rattle.laws.specs.Lists.Facts.{All-map}
@@ -48,37 +49,6 @@ scale-is : (b c : Build) (f : Follows b c) → b .built / c .built ≡ 2 ^ lengt
 scale-is b c f =
     let positive : 1 ≤ c .built = not-zero (c .built) (f .still-built) in
     ap (λ (k : ℕ). k / c .built) (sym (f .scale)) ∙ mul-div-cancel (2 ^ length (f .front)) positive
-
-module _ (xs : List ℤ) (ws : List ℕ) (first : ℕ) (store : List ℕ) (accepted : start-refusal xs ws first store ≡ 0) (two : 2 ≤ length xs) (b : Build) (reached : Leads (new-build xs ws first) b) where
-  world : World xs ws b
-  world = leads-world xs ws (new-build xs ws first) b (started-world xs ws first store (lent xs ws first store accepted)) reached
-
-  inputs-two : 2 ≤ b .inputs
-  inputs-two = omega (arith, world .inputs-are)
-
-  -- a later built divisor goes into the earlier one
-  later-divides : (c : Build) → Leads b c → b .built / c .built * c .built ≡ b .built
-  later-divides c later = go (eqb (b .built) 0) refl
-    where
-      go : (t : Bool) → eqb (b .built) 0 ≡ t → b .built / c .built * c .built ≡ b .built
-      go true e =
-          let z : b .built ≡ 0 = eqb-true (b .built) 0 e in
-          ap (λ (k : ℕ). k / c .built * c .built) z ∙ (ap (λ (k : ℕ). k * c .built) (zero-div (c .built)) ∙ (zero-mul (c .built) ∙ sym z))
-      go false e =
-          let f : Follows b c = leads-follows xs ws b c world (eqb-false (b .built) 0 e) later in
-          ap (λ (k : ℕ). k * c .built) (scale-is b c f) ∙ f .scale
-
-  -- Ask 13 of the change requests, its second sentence: an answer for u, asked as q = u divided by built over set divisor, admits in any later
-  -- world at divisor d' the loads whose sum at d' is at most (D/d')(q + 1) - 1
-  answer-later : (u : ℕ) (l : ℤ) (ls : List ℤ) → enforce b u ≡ some (l ∷ ls) → (c : Build) → Leads b c → (α : Assign) →
-      Admits xs (c .arena .clauses) (l ∷ ls) α ↔ (sum-of xs ws (c .built) (holds α) ≤ b .built / c .built * suc (asked b u) - 1)
-  answer-later u l ls e c later α =
-      let en : Enforced b u (l ∷ ls) = enforced b u l ls inputs-two e in
-      let f : Follows b c = leads-follows xs ws b c world (en .is-built) later in
-      let main = later-admits xs ws b c world (leads-world xs ws b c world later) f (asked b u) (l ∷ ls) (en .answered) α in
-      let same : b .built / c .built * suc (asked b u) ≡ 2 ^ length (f .front) * suc (asked b u) = ap (λ (k : ℕ). k * suc (asked b u)) (scale-is b c f) in
-      let some-more : 1 ≤ 2 ^ length (f .front) * suc (asked b u) = mul-pos (pow-pos (length (f .front))) (omega arith) in
-      (λ h. omega (arith, main .0 h), λ h. main .1 (omega arith))
 
 -- weights undivided
 sum-one : (xs : List ℤ) (ws : List ℕ) → length xs ≡ length ws → sum-of xs ws 1 (λ x. true) ≡ total ws
@@ -128,20 +98,57 @@ settled-sum xs ws b w n low t =
       subst (λ (k : ℕ). 1 ≤ k) (sym is) (pow-pos j),
     )
 
-module _ (xs : List ℤ) (ws : List ℕ) (first : ℕ) (store : List ℕ) (accepted : start-refusal xs ws first store ≡ 0) (two : 2 ≤ length xs) (b : Build) (reached : Leads (new-build xs ws first) b) where
+module _ (lits : List ℤ) (weights : List ℕ) (first : ℕ) (store : List ℕ) (accepted : start-refusal lits weights first store ≡ 0) (two : 2 ≤ length (combined-literals lits)) (b : Build)
+    (reached : Leads (new-build (combined-literals lits) (combined-weights lits weights) first) b) where
+  -- the inputs: the combined list
+  abbrev pub xs : List ℤ
+  xs = combined-literals lits
+
+  abbrev pub ws : List ℕ
+  ws = combined-weights lits weights
+
+  world : World xs ws b
+  world = leads-world xs ws (new-build xs ws first) b (started-world xs ws first store (lent lits weights first store accepted)) reached
+
+  inputs-two : 2 ≤ b .inputs
+  inputs-two = omega (arith, world .inputs-are)
+
+  -- a later built divisor goes into the earlier one
+  later-divides : (c : Build) → Leads b c → b .built / c .built * c .built ≡ b .built
+  later-divides c later = go (eqb (b .built) 0) refl
+    where
+      go : (t : Bool) → eqb (b .built) 0 ≡ t → b .built / c .built * c .built ≡ b .built
+      go true e =
+          let z : b .built ≡ 0 = eqb-true (b .built) 0 e in
+          ap (λ (k : ℕ). k / c .built * c .built) z ∙ (ap (λ (k : ℕ). k * c .built) (zero-div (c .built)) ∙ (zero-mul (c .built) ∙ sym z))
+      go false e =
+          let f : Follows b c = leads-follows xs ws b c world (eqb-false (b .built) 0 e) later in
+          ap (λ (k : ℕ). k * c .built) (scale-is b c f) ∙ f .scale
+
+  -- Ask 13 of the change requests, its second sentence: an answer for u, asked as q = u divided by built over set divisor, admits in any later
+  -- world at divisor d' the loads whose sum at d' is at most (D/d')(q + 1) - 1
+  answer-later : (u : ℕ) (l : ℤ) (ls : List ℤ) → enforce b u ≡ some (l ∷ ls) → (c : Build) → Leads b c → (α : Assign) →
+      Admits xs (c .arena .clauses) (l ∷ ls) α ↔ (sum-of xs ws (c .built) (holds α) ≤ b .built / c .built * suc (asked b u) - 1)
+  answer-later u l ls e c later α =
+      let en : Enforced b u (l ∷ ls) = enforced b u l ls inputs-two e in
+      let f : Follows b c = leads-follows xs ws b c world (en .is-built) later in
+      let main = later-admits xs ws b c world (leads-world xs ws b c world later) f (asked b u) (l ∷ ls) (en .answered) α in
+      let same : b .built / c .built * suc (asked b u) ≡ 2 ^ length (f .front) * suc (asked b u) = ap (λ (k : ℕ). k * suc (asked b u)) (scale-is b c f) in
+      let some-more : 1 ≤ 2 ^ length (f .front) * suc (asked b u) = mul-pos (pow-pos (length (f .front))) (omega arith) in
+      (λ h. omega (arith, main .0 h), λ h. main .1 (omega arith))
+
   -- Ask 13, its first sentence: a finer question to a coarser build. The answer admits exactly the loads whose weights, divided by the set
   -- divisor and rounded down, sum to at most u; so it does in any later world, until a refinement
   finer-question : (u : ℕ) (l : ℤ) (ls : List ℤ) → enforce b u ≡ some (l ∷ ls) → (c : Build) → Leads b c → c .built ≡ b .built → (α : Assign) →
       Admits xs (c .arena .clauses) (l ∷ ls) α ↔ (sum-of xs ws (b .set) (holds α) ≤ u)
   finer-question u l ls e c later same α =
-      let w : World xs ws b = world xs ws first store accepted two b reached in
-      let en : Enforced b u (l ∷ ls) = enforced b u l ls (inputs-two xs ws first store accepted two b reached) e in
+      let en : Enforced b u (l ∷ ls) = enforced b u l ls inputs-two e in
       let k : ℕ = b .built / b .set in
       let s : ℕ = sum-of xs ws (b .built) (holds α) in
       let main : Admits xs (c .arena .clauses) (l ∷ ls) α ↔ (s ≤ b .built / b .built * suc (u / k) - 1) =
       subst (λ (d : ℕ). Admits xs (c .arena .clauses) (l ∷ ls) α ↔ (sum-of xs ws d (holds α) ≤ b .built / d * suc (u / k) - 1)) same
-      (answer-later xs ws first store accepted two b reached u l ls e c later α) in
-      let (is, positive) = settled-sum xs ws b w (en .is-built) (en .settled) (holds α) in
+      (answer-later u l ls e c later α) in
+      let (is, positive) = settled-sum xs ws b world (en .is-built) (en .settled) (holds α) in
       let one : b .built / b .built * suc (u / k) - 1 ≡ u / k = ap (λ (m : ℕ). m * suc (u / k) - 1) (self-div (b .built) (en .is-built)) ∙ omega (arith, one-mul (suc (u / k))) in
       let law : (s ≤ u / k) ↔ (k * s ≤ u) = bound-div u k s positive in
       (λ h. omega (arith, is, law .0 (omega (arith, main .0 h, one))), λ h. main .1 (omega (arith, one, law .1 (omega (arith, is)))))
@@ -160,27 +167,23 @@ module _ (xs : List ℤ) (ws : List ℕ) (first : ℕ) (store : List ℕ) (accep
   pub promised : (u : ℕ) (l : ℤ) (ls : List ℤ) → enforce b u ≡ some (l ∷ ls) → (c : Build) → Leads b c →
       Promised xs ws (b .set) (b .built) u (l ∷ ls) (c .built) (c .arena .clauses)
   promised u l ls e c later =
-      let w : World xs ws b = world xs ws first store accepted two b reached in
-      let n : b .built ≢ 0 = enforced b u l ls (inputs-two xs ws first store accepted two b reached) e .is-built in
+      let n : b .built ≢ 0 = enforced b u l ls inputs-two e .is-built in
       record {
         is-built = not-zero (b .built) n;
-        divides = later-divides xs ws first store accepted two b reached c later;
+        divides = later-divides c later;
         admits = λ α.
-            subst (λ (q : ℕ). Admits xs (c .arena .clauses) (l ∷ ls) α ↔ (sum-of xs ws (c .built) (holds α) ≤ b .built / c .built * suc q - 1)) (asked-is xs ws b w n u)
-            (answer-later xs ws first store accepted two b reached u l ls e c later α);
+            subst (λ (q : ℕ). Admits xs (c .arena .clauses) (l ∷ ls) α ↔ (sum-of xs ws (c .built) (holds α) ≤ b .built / c .built * suc q - 1)) (asked-is xs ws b world n u)
+            (answer-later u l ls e c later α);
         unrefined = finer-question u l ls e c later;
       }
 
   -- Demand 3, an empty answer comes only if all inputs together, divided by the set divisor, stay within u
   pub promised-empty : (u : ℕ) → enforce b u ≡ some [] → sum-of xs ws (b .set) (λ x. true) ≤ u
   unfolding built-answer root-answer output-answer unbuilt output-weight root-node
-  promised-empty u e = first-test (leb (b .sum) u) refl (eqb (b .set) 1) refl (sym (two-enforce b u (inputs-two xs ws first store accepted two b reached)) ∙ e)
+  promised-empty u e = first-test (leb (b .sum) u) refl (eqb (b .set) 1) refl (sym (two-enforce b u inputs-two) ∙ e)
     where
-      w : World xs ws b
-      w = world xs ws first store accepted two b reached
-
       lengths : length xs ≡ length ws
-      lengths = lent xs ws first store accepted .lengths
+      lengths = lent lits weights first store accepted .lengths
 
       q : ℕ
       q = asked b u
@@ -191,14 +194,14 @@ module _ (xs : List ℤ) (ws : List ℕ) (first : ℕ) (store : List ℕ) (accep
       -- the bound reaches the root's maximum
       high : (n : b .built ≢ 0) → largest (b .queue) < b .set → nodeAt (b .arena .records) (root b) .maximum ≤ q / v → sum-of xs ws (b .set) (λ x. true) ≤ u
       high n low h =
-          let c : Counting xs ws (b .built) (b .arena) (root b) (b .tares) = counting xs ws b w n in
+          let c : Counting xs ws (b .built) (b .arena) (root b) (b .tares) = counting xs ws b world n in
           let s : ℕ = sum-of xs ws (b .built) (λ x. true) in
           let k : ℕ = b .built / b .set in
           let is : (s + tare-sum (λ x. true) (b .tares)) / v ≡ nodeAt (b .arena .records) (root b) .maximum =
-          sym (c .root-value (λ x. true)) ∙ value-all (nodeAt (b .arena .records)) (place (b .arena .records)) (w .formed .sound) (root b) in
+          sym (c .root-value (λ x. true)) ∙ value-all (nodeAt (b .arena .records)) (place (b .arena .records)) (world .formed .sound) (root b) in
           let within : s + tare-sum (λ x. true) (b .tares) < suc (q / v) * v = bound-law (s + tare-sum (λ x. true) (b .tares)) (q / v) (length (b .tares)) .0 (omega arith) in
           let small : s ≤ q = omega (arith, tare-all (b .tares), suc-mul (q / v) v, div-mul-le-self q v) in
-          let (set-is, positive) = settled-sum xs ws b w n low (λ x. true) in
+          let (set-is, positive) = settled-sum xs ws b world n low (λ x. true) in
           omega (arith, set-is, mul-le-mul-left k small, div-mul-le-self u k, mul-comm k (u / k))
 
       rooted : (n : b .built ≢ 0) → largest (b .queue) < b .set → (t : Bool) → leb (nodeAt (b .arena .records) (root b) .maximum) (q / v) ≡ t →
@@ -219,6 +222,6 @@ module _ (xs : List ℤ) (ws : List ℕ) (first : ℕ) (store : List ℕ) (accep
       first-test : (t : Bool) → leb (b .sum) u ≡ t → (d : Bool) → eqb (b .set) 1 ≡ d → cond (t && d) (some []) (built-answer b u) ≡ some [] → sum-of xs ws (b .set) (λ x. true) ≤ u
       first-test true h true y k =
           let undivided : sum-of xs ws (b .set) (λ x. true) ≡ total ws = ap (λ (d : ℕ). sum-of xs ws d (λ x. true)) (eqb-true (b .set) 1 y) ∙ sum-one xs ws lengths in
-          omega (arith, leb-true (b .sum) u h, w .sum-is)
+          omega (arith, leb-true (b .sum) u h, world .sum-is)
       first-test true h false y k = built (eqb (b .built) 0) refl (leb (b .set) (largest (b .queue))) refl k
       first-test false h d y k = built (eqb (b .built) 0) refl (leb (b .set) (largest (b .queue))) refl k

@@ -1,4 +1,4 @@
--- The promise of an answer at document 01's worked cases and at a finer question, computed over words, so its hypotheses can be met.
+-- The promise of an answer at document 01's worked cases and at those of document 02's asks, computed over words, so its hypotheses can be met.
 use mathlib.Core.Path.{_≡_, refl}
 use mathlib.Core.Logic.{_↔_}
 use mathlib.Core.Bool.{true}
@@ -8,6 +8,7 @@ use lib.Dec.{lit≤}
 use lib.ListN.{replicate}
 use lib.IntN.{ℤ, pos, negsuc}
 use Rattle.rules.specs.Build.{buildOf, output-weight}
+use Rattle.rules.specs.Combined.{combined-literals, combined-weights}
 use Rattle.rules.specs.Start.{start-refusal}
 use Rattle.rules.specs.Enforce.{enforce-ub}
 use Rattle.guarantee.specs.Meaning.Truth.{Assign, holds}
@@ -43,13 +44,13 @@ p3-weights = refl
 
 -- P4: the answer for u = 2, -10 and 4, admits exactly the sums up to 2
 p4-two : (α : Assign) → Admits xs (clauses-in p3) (negsuc 9 ∷ pos 4 ∷ []) α ↔ (sum-of xs ws 1 (holds α) ≤ 2)
-unfolding started encode-call enforce-ub start-refusal
+unfolding started encode-call enforce-ub start-refusal combined-literals combined-weights
 p4-two α =
     demand3-exactly xs ws 4 (store 14) (signed 34) refl (lit≤ tt) p3 (next-encode work 2 4 none-yet) (signed 2) 2 (negsuc 9) (pos 4 ∷ []) refl refl p3 none-yet refl α
 
 -- and the one for u = 6 is empty, since all together weigh 6
 p4-six : sum-of xs ws 1 (λ x. true) ≤ 6
-unfolding started encode-call enforce-ub start-refusal
+unfolding started encode-call enforce-ub start-refusal combined-literals combined-weights
 p4-six = answer-promise xs ws 4 (store 14) (signed 34) refl (lit≤ tt) p3 (next-encode work 2 4 none-yet) (signed 2) 6 refl
 
 -- P6: weights 9, 15 at divisor 8, output 2 encoded; the used words are lent again in longer slices and refined to 1
@@ -67,7 +68,7 @@ p6-refined = encode-call (set-call (lend-anew p6 (store 30) (signed 100)) 1) wor
 
 -- the earlier answer for u = 1, -4, after refinement to 1, admits exactly the sums up to 15
 p6-earlier : (α : Assign) → Admits ys (clauses-in p6-refined) (negsuc 3 ∷ []) α ↔ (sum-of ys vs 1 (holds α) ≤ 15)
-unfolding started set-call encode-call lend-anew enforce-ub start-refusal
+unfolding started set-call encode-call lend-anew enforce-ub start-refusal combined-literals combined-weights
 p6-earlier α =
     demand3-words ys vs 3 (store 10) (signed 20) refl (lit≤ tt) p6 (next-encode work 1 2 (next-set 8 none-yet)) (signed 20) 1 (negsuc 3) [] refl refl
     p6-refined (next-encode work 0 1 (next-set 1 (next-lend (store 30) (signed 100) none-yet))) α
@@ -90,16 +91,33 @@ refined = encode-call (set-call coarse 1) work 0 1
 
 -- u = 5 is asked as 2, answered -12 and 5, and admits exactly the loads whose sum at 4 is at most 5
 finer-five : (α : Assign) → Admits zs (clauses-in coarse) (negsuc 11 ∷ pos 5 ∷ []) α ↔ (sum-of zs us 4 (holds α) ≤ 5)
-unfolding started set-call encode-call enforce-ub start-refusal
+unfolding started set-call encode-call enforce-ub start-refusal combined-literals combined-weights
 finer-five α = answer-promise zs us 5 (store 40) (signed 100) refl (lit≤ tt) coarse coarse-run (signed 20) 5 refl coarse none-yet .unrefined refl α
 
 -- after refinement to 1 that same answer admits exactly the sums up to 23, which is 8 (2 + 1) - 1
 finer-refined : (α : Assign) → Admits zs (clauses-in refined) (negsuc 11 ∷ pos 5 ∷ []) α ↔ (sum-of zs us 1 (holds α) ≤ 23)
-unfolding started set-call encode-call enforce-ub start-refusal
+unfolding started set-call encode-call enforce-ub start-refusal combined-literals combined-weights
 finer-refined α =
     answer-promise zs us 5 (store 40) (signed 100) refl (lit≤ tt) coarse coarse-run (signed 20) 5 refl refined (next-encode work 0 1 (next-set 1 none-yet)) .admits α
 
 -- u = 12 is empty: all together, divided by 4, come to 12
 finer-twelve : sum-of zs us 4 (λ x. true) ≤ 12
-unfolding started set-call encode-call enforce-ub start-refusal
+unfolding started set-call encode-call enforce-ub start-refusal combined-literals combined-weights
 finer-twelve = answer-promise zs us 5 (store 40) (signed 100) refl (lit≤ tt) coarse coarse-run (signed 20) 12 refl
+
+-- Ask 4: lines 1:1, 1:1 and 2:2 at divisor 2 are inputs of 2 and 2; the answer for u = 0, -3, admits neither, though each line of literal 1 is
+-- 0 when it is divided by itself
+abbrev lines : List ℤ
+lines = pos 1 ∷ pos 1 ∷ pos 2 ∷ []
+
+abbrev line-weights : List ℕ
+line-weights = 1 ∷ 1 ∷ 2 ∷ []
+
+abbrev twice : Memory
+twice = encode-call (set-call (started lines line-weights 3 (store 10) (signed 20)) 2) work 0 1
+
+twice-none : (α : Assign) → Admits ys (clauses-in twice) (negsuc 2 ∷ []) α ↔ (sum-of ys (2 ∷ 2 ∷ []) 2 (holds α) ≤ 0)
+unfolding started set-call encode-call enforce-ub start-refusal combined-literals combined-weights
+twice-none α =
+    demand3-exactly lines line-weights 3 (store 10) (signed 20) refl (lit≤ tt) twice (next-encode work 0 1 (next-set 2 none-yet)) (signed 20) 0 (negsuc 2) [] refl refl
+    twice none-yet refl α

@@ -11,6 +11,7 @@ use Rattle.rules.specs.declared.State.{State}
 use Rattle.rules.specs.declared.Encoded.{Encoded}
 use Rattle.rules.specs.Records.{Output, waiting, outputs, recordsOf}
 use Rattle.rules.specs.Build.{Build, records, clause-total, variable-total, stateOf, buildOf, held}
+use Rattle.rules.specs.Combined.{combined-literals, combined-weights}
 use Rattle.rules.specs.Start.{start-refusal, new-build}
 use Rattle.rules.specs.Encode.{encode, nothing-done, encode-refusal, EncodeEnd, encoded, untouched, no-room-end, encoded-end, encode-end, encode-ub-change}
 use Rattle.laws.specs.Records.Words.{records-of-image}
@@ -83,19 +84,21 @@ reported m work lo end = go (encode-refusal (m .state) (m .store) (m .clauses) w
     go zero = done (nothing-done b c)
     go (suc n) = refused n (eqb (suc n) 7)
 
-module _ (xs : List ℤ) (ws : List ℕ) (first : ℕ) (store : List ℕ) (clauses : List ℤ) (accepted-start : start-refusal xs ws first store ≡ 0) where
+module _ (lits : List ℤ) (weights : List ℕ) (first : ℕ) (store : List ℕ) (clauses : List ℤ) (accepted-start : start-refusal lits weights first store ≡ 0) where
   -- the totals of the state that any run of calls reaches
-  pub state-totals : (m : Memory) → Run (started xs ws first store clauses) m → Totals first (m .state .clauses) (m .state .variables) m
+  pub state-totals : (m : Memory) → Run (started lits weights first store clauses) m → Totals first (m .state .clauses) (m .state .variables) m
   unfolding new-build
   state-totals m run =
+      let xs : List ℤ = combined-literals lits in
+      let ws : List ℕ = combined-weights lits weights in
       let new : Build = new-build xs ws first in
-      let begun : World xs ws new = started-world xs ws first store (lent xs ws first store accepted-start) in
-      let g : Goes new m = run-goes xs ws new begun (started xs ws first store clauses) m (start-shows xs ws first store clauses accepted-start) run in
+      let begun : World xs ws new = started-world xs ws first store (lent lits weights first store accepted-start) in
+      let g : Goes new m = run-goes xs ws new begun (started lits weights first store clauses) m (start-shows lits weights first store clauses accepted-start) run in
       subst (λ (k : ℕ). Totals k (m .state .clauses) (m .state .variables) m) (leads-first new (g .build) (g .leads))
       (shown-totals xs ws (g .build) (leads-world xs ws new (g .build) begun (g .leads)) (leads-numbered xs ws new (g .build) begun (new-numbered xs ws first) (g .leads)) m (g .shows))
 
   -- the totals that an encode reports after any run of calls, accepted or refused, are those of what it leaves
-  pub encode-totals : (m : Memory) → Run (started xs ws first store clauses) m → (work : List ℕ) (lo end : ℕ) →
+  pub encode-totals : (m : Memory) → Run (started lits weights first store clauses) m → (work : List ℕ) (lo end : ℕ) →
       let e : Encoded = encode-ub-change (m .state) (m .store) (m .clauses) work lo end .answer in
       Totals first (e .clauses) (e .variables) (encode-call m work lo end)
   unfolding encode-call

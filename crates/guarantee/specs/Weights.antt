@@ -11,15 +11,15 @@ use lib.ListN.{length, getD, drop, length-map}
 use lib.IntN.{ℤ, pos, negsuc, natAbs}
 use lib.Pow.{pow-add}
 use borrow.Author.Tests.{eqb-true, eqb-false, eq-eqb, ne-eqb}
-use Rattle.rules.specs.Lists.{total, distinct}
+use Rattle.rules.specs.Lists.{total}
 use Rattle.rules.specs.Digits.{top-bit}
 use Rattle.rules.specs.Records.{Entry, nodeAt, literal-word}
 use Rattle.rules.specs.Build.{Build, output-weight, some-wait}
-use Rattle.rules.specs.Refusals.{first-of, lists-differ, literal-unlawful, literal-twice}
+use Rattle.rules.specs.Combined.{combined-literals, combined-weights}
 use Rattle.rules.specs.Start.{start-refusal, new-build}
-use Rattle.laws.specs.Lists.Facts.{not-not, All, All-map, All-drop, occurs, occurs-here, occurs-more}
-use Rattle.laws.specs.Lists.Counts.{distinct-occurs}
-use Rattle.preserve.specs.Starts.{lent, not-first}
+use Rattle.laws.specs.Lists.Facts.{All, All-map, All-drop, occurs, occurs-here, occurs-more}
+use Rattle.laws.specs.Combined.{combined-once}
+use Rattle.preserve.specs.Starts.{lent}
 use Rattle.guarantee.specs.Meaning.Truth.{Truths}
 use Rattle.guarantee.specs.Meaning.Values.{bit}
 use Rattle.guarantee.specs.Counting.Chains.{units, tare-sum, tops, tops-length}
@@ -93,15 +93,6 @@ inputs-place [] P a i h = absurd (omega arith)
 inputs-place (x ∷ xs) P a zero h = a .0
 inputs-place (x ∷ xs) P a (suc i) h = inputs-place xs P (a .1) i (omega arith)
 
--- no literal of an accepted start stands twice
-inputs-once : (xs : List ℤ) (ws : List ℕ) (first : ℕ) (store : List ℕ) → start-refusal xs ws first store ≡ 0 → (n : ℕ) → occurs n (map literal-word xs) ≤ 1
-unfolding start-refusal first-of literal-twice
-inputs-once xs ws first store e =
-    let (one, e₁) = not-first 0 (lists-differ xs ws) _ e in
-    let (two, e₂) = not-first 1 (literal-unlawful xs) _ e₁ in
-    let (three, e₃) = not-first 2 (literal-twice xs) _ e₂ in
-    distinct-occurs (map literal-word xs) (not-not (distinct (map literal-word xs)) three)
-
 module _ (xs : List ℤ) (ws : List ℕ) (b : Build) (v : World xs ws b) (plain : Plain b) (i : ℕ) (h : i < length xs) (weighs : sum-of xs ws 1 (only (getD xs i (pos 0))) ≡ getD ws i 0) where
   x : ℤ
   x = getD xs i (pos 0)
@@ -170,18 +161,26 @@ total-places f [] (w ∷ ws) e h = absurd (omega arith)
 total-places f (x ∷ xs) [] e h = absurd (omega arith)
 total-places f (x ∷ xs) (w ∷ ws) e h = ap₂ _+_ (h 0 (omega arith)) (total-places f xs ws (omega arith) (λ i k. h (suc i) (omega arith)))
 
-module _ (xs : List ℤ) (ws : List ℕ) (first : ℕ) (store : List ℕ) (accepted : start-refusal xs ws first store ≡ 0) (b : Build) (reached : Leads (new-build xs ws first) b) where
+module _ (lits : List ℤ) (weights : List ℕ) (first : ℕ) (store : List ℕ) (accepted : start-refusal lits weights first store ≡ 0) (b : Build)
+    (reached : Leads (new-build (combined-literals lits) (combined-weights lits weights) first) b) where
+  -- the inputs: the combined list
+  abbrev pub xs : List ℤ
+  xs = combined-literals lits
+
+  abbrev pub ws : List ℕ
+  ws = combined-weights lits weights
+
   v : World xs ws b
-  v = leads-world xs ws (new-build xs ws first) b (started-world xs ws first store (lent xs ws first store accepted)) reached
+  v = leads-world xs ws (new-build xs ws first) b (started-world xs ws first store (lent lits weights first store accepted)) reached
 
   plain : Plain b
-  plain = leads-plain xs ws (new-build xs ws first) b (started-world xs ws first store (lent xs ws first store accepted)) (new-plain xs ws first) reached
+  plain = leads-plain xs ws (new-build xs ws first) b (started-world xs ws first store (lent lits weights first store accepted)) (new-plain xs ws first) reached
 
   -- for each input, the powers of the buckets that it stands under plus what waits of it is its weight
   pub input-weight : (i : ℕ) → i < length xs → weight-of b (getD xs i (pos 0)) ≡ getD ws i 0
   unfolding x
-  input-weight i h = weighed xs ws b v plain i h (sum-only xs ws (lent xs ws first store accepted .lengths) (inputs-once xs ws first store accepted) i h)
+  input-weight i h = weighed xs ws b v plain i h (sum-only xs ws (lent lits weights first store accepted .lengths) (combined-once lits) i h)
 
   -- counted over all inputs, the powers of the buckets each stands under plus what waits equals the weight sum
   pub weight-sum : total (map (weight-of b) xs) ≡ b .sum
-  weight-sum = total-places (weight-of b) xs ws (lent xs ws first store accepted .lengths) input-weight ∙ sym (v .sum-is)
+  weight-sum = total-places (weight-of b) xs ws (lent lits weights first store accepted .lengths) input-weight ∙ sym (v .sum-is)

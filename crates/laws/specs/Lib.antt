@@ -2,6 +2,7 @@
 pub mod Lists
 pub mod Numbers
 pub mod Records
+pub mod Combined
 pub mod WellFormed
 pub mod Totalizer
 pub mod Queue

@@ -15,6 +15,7 @@ use Rattle.rules.specs.Numbers.{record-words, capacity}
 use Rattle.rules.specs.Records.{Entry, Output, outputs, Node, Record, waiting, nodeAt, node-of, recordsOf, imageOf, leaf-node}
 use Rattle.rules.specs.Build.{tares-of, build-over, Build, records, stateOf, held, buildOf}
 use Rattle.rules.specs.WellFormed.{numbers-of, marks-within, well-formed, well-formed-clauses, clauses-over, variable-of, input-variables}
+use Rattle.rules.specs.Combined.{combined-literals, combined-weights}
 use Rattle.rules.specs.Start.{start-refusal, new-build, start, start-end}
 use Rattle.rules.specs.Precision.{set-refusal, with-set, set-end, set-precision}
 use Rattle.rules.specs.Encode.{encode, nothing-done, encode-refusal, EncodeEnd, encoded, untouched, no-room-end, encoded-end, encode-end, encode-ub-change}
@@ -80,13 +81,13 @@ new-ahead xs ws first store l =
     low (x ∷ xs) h zero b = h .0
     low (x ∷ xs) h (suc i) b = low xs (h .1) i (omega arith)
 
-pub started-ahead : (xs : List ℤ) (ws : List ℕ) (first : ℕ) (store : List ℕ) (clauses : List ℤ) → start-refusal xs ws first store ≡ 0 →
-    fresh-ahead (start xs ws first store clauses .answer .state) (start xs ws first store clauses .store) ≡ true
+pub started-ahead : (lits : List ℤ) (weights : List ℕ) (first : ℕ) (store : List ℕ) (clauses : List ℤ) → start-refusal lits weights first store ≡ 0 →
+    fresh-ahead (start lits weights first store clauses .answer .state) (start lits weights first store clauses .store) ≡ true
 unfolding start start-end
-started-ahead xs ws first store clauses e =
-    let b : Build = new-build xs ws first in
+started-ahead lits weights first store clauses e =
+    let b : Build = new-build (combined-literals lits) (combined-weights lits weights) first in
     ap (λ (n : ℕ). fresh-ahead (start-end n b store clauses .answer .state) (start-end n b store clauses .store)) e ∙
-    ahead-written b (length store) (new-ahead xs ws first store (lent xs ws first store e))
+    ahead-written b (length store) (new-ahead (combined-literals lits) (combined-weights lits weights) first store (lent lits weights first store e))
 
 -- a set, accepted or refused
 pub set-keeps : (s : State) (store : List ℕ) (clauses : List ℤ) (d : ℕ) → well-formed s store clauses ≡ true → fresh-ahead s store ≡ true →

@@ -1,4 +1,4 @@
--- An accepted start is well formed: its records are a leaf for each literal, then an entry for each weight.
+-- An accepted start is well formed: its records are a leaf for each combined literal, then an entry for each combined weight.
 use mathlib.Core.Path.{_≡_, refl, sym, _∙_, ap, ap₂, subst}
 use mathlib.Core.Logic.{_≢_, inl}
 use mathlib.Core.Bool.{Bool, true, false, not, cond, _||_}
@@ -8,18 +8,20 @@ use native.Mathlib.Omega.{arith}
 use lib.Dec.{ltb, eqb, leb}
 use lib.ListN.{length, length-map, length-append}
 use lib.IntN.{ℤ, pos, natAbs}
-use borrow.Author.Tests.{ltb-false, eqb-false, eqb-true, leb-true, ltb-true}
+use borrow.Author.Tests.{ltb-false, eqb-false, eqb-true, leb-true, ltb-true, eq-eqb, ne-eqb, lt-ltb, le-ltb, le-leb}
 use Rattle.rules.specs.Lists.{all, total, rising, padded}
-use Rattle.rules.specs.Numbers.{lawful, lawful-weight, capacity, most-inputs, most-variable}
+use Rattle.rules.specs.Numbers.{lawful, lawful-weight, capacity, most-inputs, most-variable, most-weight}
 use Rattle.rules.specs.Digits.{top-bit, digits, bit-length}
-use Rattle.rules.specs.Refusals.{first-of, lists-differ, literal-unlawful, literal-twice, weight-unlawful, fresh-unlawful}
-use Rattle.rules.specs.Records.{Node, Output, Entry, Record, node, waits, nodeAt, node-of, outputs, leaf-node}
+use Rattle.rules.specs.Combined.{combined-literals, weight-named, combined-weights}
+use Rattle.rules.specs.Refusals.{first-of, lists-differ, literal-unlawful, weight-unlawful, fresh-unlawful}
+use Rattle.rules.specs.Records.{Node, Output, Entry, Record, node, waits, nodeAt, node-of, outputs, leaf-node, literal-word}
 use Rattle.rules.specs.Build.{Build, records, clause-total, clause-mark, clause-words}
 use Rattle.rules.specs.WellFormed.{known, is-node, well-formed}
 use Rattle.rules.specs.Start.{start-no-room, start-refusal, new-build, start, start-end}
 use Rattle.laws.specs.Records.Words.{both}
-use Rattle.laws.specs.Lists.Facts.{All, All-map, All-image, All-source, All-rising, neither, not-not, all-facts, total-cong, length-total, occurs, rising-has}
+use Rattle.laws.specs.Lists.Facts.{All, All-map, All-zip, All-image, All-source, All-rising, and-true, neither, not-not, all-facts, facts-all, total-cong, length-total, occurs, rising-has}
 use Rattle.laws.specs.Records.Places.{place}
+use Rattle.laws.specs.Combined.{combined-once, combined-all, combined-stands, combined-few, combined-lengths, named-positive, combined-same, combined-weights-same, combined-twice, combined-weights-twice}
 use Rattle.laws.specs.WellFormed.Plain.{Ruled, Defined, Taken, Waits, variables-of, Formed}
 use Rattle.laws.specs.Totalizer.Grows.{ruled-leaf, ruled-dummy}
 use Rattle.laws.specs.WellFormed.Whole.{written}
@@ -77,29 +79,69 @@ pub not-first : (k : ℕ) (b : Bool) (rest : ℕ) → cond b (suc k) rest ≡ 0 
 not-first k true rest e = absurd (omega arith)
 not-first k false rest e = (refl, e)
 
-pub lent : (xs : List ℤ) (ws : List ℕ) (first : ℕ) (store : List ℕ) → start-refusal xs ws first store ≡ 0 → Lent xs ws first store
-unfolding start-refusal first-of lists-differ literal-unlawful weight-unlawful fresh-unlawful start-no-room lawful-weight
-lent xs ws first store e =
-    let (one, e₁) = not-first 0 (lists-differ xs ws) _ e in
-    let (two, e₂) = not-first 1 (literal-unlawful xs) _ e₁ in
-    let (three, e₃) = not-first 2 (literal-twice xs) _ e₂ in
-    let (four, e₄) = not-first 3 (weight-unlawful ws) _ e₃ in
-    let (five, e₅) = not-first 4 (fresh-unlawful xs first) _ e₄ in
-    let (seven, e₆) = not-first 6 (start-no-room xs store) _ e₅ in
-    let (unequal, over) = neither (not (eqb (length xs) (length ws))) (ltb most-inputs (length xs)) one in
-    let (bounds, inputs) = neither (eqb first 0 || ltb most-variable first) (not (all (λ x. ltb (natAbs x) first) xs)) five in
+-- it was lent the combined list of its lines
+pub lent : (lits : List ℤ) (weights : List ℕ) (first : ℕ) (store : List ℕ) → start-refusal lits weights first store ≡ 0 →
+    Lent (combined-literals lits) (combined-weights lits weights) first store
+unfolding start-refusal first-of lists-differ literal-unlawful weight-unlawful fresh-unlawful start-no-room lawful-weight combined-weights
+lent lits weights first store e =
+    let (one, e₁) = not-first 0 (lists-differ lits weights) _ e in
+    let (two, e₂) = not-first 1 (literal-unlawful lits) _ e₁ in
+    let (four, e₃) = not-first 3 (weight-unlawful lits weights) _ e₂ in
+    let (five, e₄) = not-first 4 (fresh-unlawful lits first) _ e₃ in
+    let (seven, e₅) = not-first 6 (start-no-room lits store) _ e₄ in
+    let (unequal, over) = neither (not (eqb (length lits) (length weights))) (ltb most-inputs (length lits)) one in
+    let (zeroes, heavy) = neither (not (all lawful-weight weights)) (not (all (λ w. leb w most-weight) (combined-weights lits weights))) four in
+    let (bounds, inputs) = neither (eqb first 0 || ltb most-variable first) (not (all (λ x. ltb (natAbs x) first) lits)) five in
     let (none, top) = neither (eqb first 0) (ltb most-variable first) bounds in
     let positive : first ≢ 0 = eqb-false first 0 none in
+    let lengths : length lits ≡ length weights = eqb-true (length lits) (length weights) (not-not _ unequal) in
+    let lines : All (λ w. 1 ≤ w) weights = all-facts lawful-weight (λ w h. leb-true 1 w (both (leb 1 w) _ h .0)) weights (not-not _ zeroes) in
+    let low : All (λ w. 1 ≤ w) (combined-weights lits weights) =
+    All-image (λ w. 1 ≤ w) (weight-named lits weights) (combined-literals lits) (All-map (λ x h. named-positive lits weights x lengths lines h) (combined-literals lits) (combined-stands lits)) in
+    let high : All (λ w. w ≤ 1048575) (combined-weights lits weights) = all-facts (λ w. leb w most-weight) (λ w h. leb-true w most-weight h) (combined-weights lits weights) (not-not _ heavy) in
     record {
-      lengths = eqb-true (length xs) (length ws) (not-not _ unequal);
-      few = ltb-false most-inputs (length xs) over;
-      literals = all-facts lawful (λ x h. h) xs (not-not _ two);
-      weights = all-facts lawful-weight (λ w h. let (a, b) = both (leb 1 w) _ h in (leb-true _ _ a, leb-true _ _ b)) ws (not-not _ four);
+      lengths = combined-lengths lits weights;
+      few = omega (arith, combined-few lits, ltb-false most-inputs (length lits) over);
+      literals = combined-all (λ x. lawful x ≡ true) lits (all-facts lawful (λ x h. h) lits (not-not _ two));
+      weights = All-zip (λ w a b. (a, b)) (combined-weights lits weights) low high;
       first-low = omega arith;
       first-few = ltb-false most-variable first top;
-      variables-low = all-facts (λ x. ltb (natAbs x) first) (λ x h. ltb-true _ _ h) xs (not-not _ inputs);
-      room = ltb-false (capacity store) (2 * length xs) seven;
+      variables-low = combined-all (λ x. natAbs x < first) lits (all-facts (λ x. ltb (natAbs x) first) (λ x h. ltb-true _ _ h) lits (not-not _ inputs));
+      room = ltb-false (capacity store) (2 * length (combined-literals lits)) seven;
     }
+
+-- and a list in which no literal stands twice, so lent, is accepted
+pub lent-accepted : (xs : List ℤ) (ws : List ℕ) (first : ℕ) (store : List ℕ) → Lent xs ws first store → ((n : ℕ) → occurs n (map literal-word xs) ≤ 1) →
+    start-refusal xs ws first store ≡ 0
+unfolding start-refusal first-of lists-differ literal-unlawful weight-unlawful fresh-unlawful start-no-room lawful-weight
+lent-accepted xs ws first store l once =
+    let lines : all lawful-weight ws ≡ true = facts-all lawful-weight (λ w h. and-true (le-leb 1 w (h .0)) (le-leb w 1048575 (h .1))) ws (l .weights) in
+    let light : all (λ w. leb w most-weight) (combined-weights xs ws) ≡ true =
+    ap (all (λ w. leb w most-weight)) (combined-weights-same xs ws (l .lengths) once) ∙ facts-all (λ w. leb w most-weight) (λ w h. le-leb w 1048575 (h .1)) ws (l .weights) in
+    let same : length (combined-literals xs) ≡ length xs = ap length (combined-same xs once) in
+    let positive : first ≢ 0 = λ z. omega (arith, l .first-low) in
+    rw (
+      eq-eqb (length xs) (length ws) (l .lengths),
+      le-ltb most-inputs (length xs) (l .few),
+      facts-all lawful (λ x h. h) xs (l .literals),
+      lines,
+      light,
+      ne-eqb first 0 positive,
+      le-ltb most-variable first (l .first-few),
+      facts-all (λ x. ltb (natAbs x) first) (λ x h. lt-ltb (natAbs x) first h) xs (l .variables-low),
+      le-ltb (capacity store) (2 * length (combined-literals xs)) (omega (arith, same, l .room)),
+    ) refl
+
+-- an accepted start over lines is the start over their combined list
+pub start-combined : (lits : List ℤ) (weights : List ℕ) (first : ℕ) (store : List ℕ) (clauses : List ℤ) → start-refusal lits weights first store ≡ 0 →
+    start lits weights first store clauses ≡ start (combined-literals lits) (combined-weights lits weights) first store clauses
+unfolding start
+start-combined lits weights first store clauses e =
+    let xs : List ℤ = combined-literals lits in
+    let ws : List ℕ = combined-weights lits weights in
+    let accepted : start-refusal xs ws first store ≡ 0 = lent-accepted xs ws first store (lent lits weights first store e) (combined-once lits) in
+    ap₂ (λ (n : ℕ) (b : Build). start-end n b store clauses) (e ∙ sym accepted)
+    (sym (ap₂ (λ (ys : List ℤ) (vs : List ℕ). new-build ys vs first) (combined-twice lits) (combined-weights-twice lits weights)))
 
 module _ (xs : List ℤ) (ws : List ℕ) (first : ℕ) (store : List ℕ) (l : Lent xs ws first store) where
   there : (i : ℕ) → i < length ws → place (leaves xs) i ≡ true
@@ -179,13 +221,15 @@ module _ (xs : List ℤ) (ws : List ℕ) (first : ℕ) (store : List ℕ) (l : L
       (length-map (queued 0 ws) _ ∙ queued-length 0 ws)
 
 -- an accepted start is well formed
-pub accepted-start : (xs : List ℤ) (ws : List ℕ) (first : ℕ) (store : List ℕ) (clauses : List ℤ) → start-refusal xs ws first store ≡ 0 →
-    well-formed (start xs ws first store clauses .answer .state) (start xs ws first store clauses .store)
-    (start xs ws first store clauses .clauses) ≡ true
+pub accepted-start : (lits : List ℤ) (weights : List ℕ) (first : ℕ) (store : List ℕ) (clauses : List ℤ) → start-refusal lits weights first store ≡ 0 →
+    well-formed (start lits weights first store clauses .answer .state) (start lits weights first store clauses .store)
+    (start lits weights first store clauses .clauses) ≡ true
 unfolding start start-end new-build clause-mark clause-words
-accepted-start xs ws first store clauses e =
+accepted-start lits weights first store clauses e =
+    let xs : List ℤ = combined-literals lits in
+    let ws : List ℕ = combined-weights lits weights in
     let b : Build = new-build xs ws first in
-    let l : Lent xs ws first store = lent xs ws first store e in
+    let l : Lent xs ws first store = lent lits weights first store e in
     ap (λ (n : ℕ). well-formed (start-end n b store clauses .answer .state) (start-end n b store clauses .store)
     (start-end n b store clauses .clauses)) e ∙
     written b store (padded (pos 0) (length clauses) []) (new-formed xs ws first store l)

@@ -1,5 +1,6 @@
--- Document 01, a module a section, in its order; then its blackboard, more cases, and tools on lists.
+-- Document 01, a module a section, in its order; then its blackboard, more cases, those of document 02, and tools on lists.
 pub mod Numbers
+pub mod Combined
 pub mod Refusals
 pub mod Records
 pub mod Build
@@ -18,4 +19,5 @@ pub mod Blackboard
 pub mod SmallBuilds
 pub mod SmallCalls
 pub mod Broken
+pub mod Asks
 pub mod Lists

@@ -62,7 +62,7 @@ start-refusals :
     start-refusal-of (pos 1 ∷ neg 7 ∷ []) (1 ∷ 1 ∷ []) 8 3 ∷
     start-refusal-of (pos 1 ∷ neg 7 ∷ []) (1 ∷ 1 ∷ []) 8 4 ∷
     start-refusal-of [] [] 1 0 ∷ [] ≡
-    1 ∷ 2 ∷ 2 ∷ 3 ∷ 4 ∷ 4 ∷ 5 ∷ 5 ∷ 5 ∷ 7 ∷ 0 ∷ 0 ∷ []
+    1 ∷ 2 ∷ 2 ∷ 4 ∷ 4 ∷ 4 ∷ 5 ∷ 5 ∷ 5 ∷ 7 ∷ 0 ∷ 0 ∷ []
 unfolding start-refusal-of neg
 start-refusals = refl
 

@@ -7,25 +7,51 @@ use lib.ListN.{length, replicate}
 use lib.IntN.{ℤ, pos}
 use Rattle.rules.specs.declared.State.{State}
 use Rattle.rules.specs.declared.Started.{Started}
+use Rattle.rules.specs.declared.Combined.{Combined}
 use Rattle.rules.specs.Lists.{total, rising, padded}
-use Rattle.rules.specs.Numbers.{most-tares, most-buckets, capacity}
-use Rattle.rules.specs.Refusals.{first-of, lists-differ, literal-unlawful, literal-twice, weight-unlawful, fresh-unlawful, answer-of}
-use Rattle.rules.specs.Records.{node, imageOf, leaf-node}
+use Rattle.rules.specs.Numbers.{most-inputs, most-tares, most-buckets, capacity}
+use Rattle.rules.specs.Combined.{combined-literals, combined-weights}
+use Rattle.rules.specs.Refusals.{first-of, lists-differ, literal-unlawful, weight-unlawful, fresh-unlawful, answer-of}
+use Rattle.rules.specs.Records.{node, imageOf, leaf-node, literal-word}
 use Rattle.rules.specs.Build.{Build, records, stateOf}
 
--- 7: start, if capacity is below twice the input count
-unfoldable pub start-no-room : List ℤ → List ℕ → Bool
-unfolding capacity
-start-no-room lits store = ltb (capacity store) (2 * length lits)
+-- the check of a list: 1, 2, 4, each over whole lists; Ask 4: refusal 3 is no longer given
+unfoldable pub list-refusal : List ℤ → List ℕ → ℕ
+unfolding first-of lists-differ literal-unlawful weight-unlawful
+list-refusal lits weights = first-of ((1, lists-differ lits weights) ∷ (2, literal-unlawful lits) ∷ (4, weight-unlawful lits weights) ∷ [])
 
--- start: 1, 2, 3, 4, 5, 7, each over whole lists
+-- a list in arrays of 256, zeros behind it, beside the refusal of its check
+unfoldable pub list-of : ℕ → List ℤ → List ℕ → Combined
+unfolding padded literal-word
+list-of n lits weights = record {
+  refusal = n;
+  literals = padded 0 most-inputs (map literal-word lits);
+  weights = padded 0 most-inputs weights;
+  used = length lits;
+}
+
+-- the check of a list hands back the combined list, and none where it is refused
+unfoldable pub checked-end : ℕ → List ℤ → List ℕ → Combined
+unfolding list-of
+checked-end zero lits weights = list-of 0 lits weights
+checked-end (suc n) lits weights = list-of (suc n) [] []
+
+unfoldable pub checked : List ℤ → List ℕ → Combined
+unfolding list-refusal checked-end combined-literals combined-weights
+checked lits weights = checked-end (list-refusal lits weights) (combined-literals lits) (combined-weights lits weights)
+
+-- 7: start, if capacity is below twice the input count; Ask 4: combined inputs are counted
+unfoldable pub start-no-room : List ℤ → List ℕ → Bool
+unfolding capacity combined-literals
+start-no-room lits store = ltb (capacity store) (2 * length (combined-literals lits))
+
+-- start: 1, 2, 4, 5, 7, each over whole lists
 unfoldable pub start-refusal : List ℤ → List ℕ → ℕ → List ℕ → ℕ
-unfolding first-of lists-differ literal-unlawful literal-twice weight-unlawful fresh-unlawful start-no-room
+unfolding first-of lists-differ literal-unlawful weight-unlawful fresh-unlawful start-no-room
 start-refusal lits weights first store = first-of (
     (1, lists-differ lits weights) ∷
     (2, literal-unlawful lits) ∷
-    (3, literal-twice lits) ∷
-    (4, weight-unlawful weights) ∷
+    (4, weight-unlawful lits weights) ∷
     (5, fresh-unlawful lits first) ∷
     (7, start-no-room lits store) ∷ [])
 
@@ -84,8 +110,8 @@ start-end (suc n) b store clauses = record {
   clauses = clauses;
 }
 
--- start
+-- start, from the combined list
 unfoldable pub start : List ℤ → List ℕ → ℕ → List ℕ → List ℤ → StartEnd
-unfolding start-refusal new-build start-end
+unfolding start-refusal new-build combined-literals combined-weights start-end
 start lits weights first store clauses =
-    start-end (start-refusal lits weights first store) (new-build lits weights first) store clauses
+    start-end (start-refusal lits weights first store) (new-build (combined-literals lits) (combined-weights lits weights) first) store clauses

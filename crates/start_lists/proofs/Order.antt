@@ -2,33 +2,33 @@
 use mathlib.Core.Path.{_≡_, refl, sym, ap, ap₂, _∙_}
 use mathlib.Core.Bool.{Bool, true, false, not, cond, _&&_, _||_}
 use mathlib.Core.List.{List, [], _∷_, map}
-use Prim.Native.Nat.{ℕ, _*_, _/_, _≤_, _<_, min}
+use Prim.Native.Nat.{ℕ, zero, suc, _*_, _/_, _≤_, _<_, min}
 use native.Mathlib.Omega.{arith}
 use borrow.Author.Tests.{eq-eqb, ne-eqb, lt-ltb, le-ltb, le-leb, lt-leb, eqb-true, ltb-true, ltb-false}
 use lib.Dec.{eqb, ltb, leb}
 use lib.ListN.{length}
 use lib.IntN.{ℤ, natAbs}
-use Rattle.rules.specs.Lists.{all, distinct}
+use Rattle.rules.specs.declared.Combined.{Combined}
+use Rattle.rules.specs.Lists.{all}
 use Rattle.rules.specs.Numbers.{lawful, lawful-weight, capacity}
 use Rattle.rules.specs.Records.{literal-word, word-literal}
-use Rattle.rules.specs.Refusals.{first-of, lists-differ, literal-unlawful, literal-twice, weight-unlawful, fresh-unlawful}
-use Rattle.rules.specs.Start.{start-no-room, start-refusal}
+use Rattle.rules.specs.Combined.{combined-literals, combined-weights}
+use Rattle.rules.specs.Refusals.{first-of, lists-differ, literal-unlawful, weight-unlawful, fresh-unlawful}
+use Rattle.rules.specs.Start.{list-refusal, list-of, checked-end, checked, start-no-room, start-refusal}
+use Rattle.laws.specs.Combined.{combined-few}
 use Rattle.laws.specs.Lists.Facts.{not-not, neither}
 use Rattle.laws.specs.Records.Words.{both, literal-word-literal}
 use Rattle.numbers.specs.Signed.{word-or-none}
 use Rattle.start_lists.specs.Literals.{words}
+use Rattle.start_lists.specs.Lines.{Lines, lines-refusal}
 
 -- where all literals are lawful their words are those of the rules
-lawful-words : (lits : List ℤ) → all lawful lits ≡ true → words lits ≡ map literal-word lits
+pub lawful-words : (lits : List ℤ) → all lawful lits ≡ true → words lits ≡ map literal-word lits
 unfolding words all word-or-none
 lawful-words [] h = refl
 lawful-words (x ∷ lits) h =
     let (a, b) = both (lawful x) (all lawful lits) h in
     ap₂ (λ (w : ℕ) ws. w ∷ ws) (ap (λ (t : Bool). cond t (literal-word x) 0) a) (lawful-words lits b)
-
-pub twice-lawful : (lits : List ℤ) → all lawful lits ≡ true → not (distinct (words lits)) ≡ literal-twice lits
-unfolding literal-twice
-twice-lawful lits h = ap (λ ws. not (distinct ws)) (lawful-words lits h)
 
 -- a test of the variables of words is one of the literals
 variables : (first : ℕ) (lits : List ℤ) → all (λ w. ltb (natAbs (word-literal w)) first) (map literal-word lits) ≡ all (λ x. ltb (natAbs x) first) lits
@@ -86,61 +86,134 @@ pub lengths-same : (lits : List ℤ) (weights : List ℕ) → length lits ≡ le
 unfolding lists-differ
 lengths-same lits weights h = sym (ap (λ (b : Bool). not b || ltb 256 (length lits)) (eq-eqb _ _ h))
 
--- few inputs
-pub few : (lits : List ℤ) (weights : List ℕ) (b : Bool) → b ≡ lists-differ lits weights → b ≡ false → (length lits ≡ length weights) × (length lits ≤ 256)
-unfolding lists-differ
-few lits weights b e f =
-    let (p, q) = neither (not (eqb (length lits) (length weights))) (ltb 256 (length lits)) (sym e ∙ f) in
-    (eqb-true (length lits) (length weights) (not-not _ p), ltb-false 256 (length lits) q)
+-- the lines one by one
+module _ (lits : List ℤ) (weights : List ℕ) where
+  pub lines-1 : lists-differ lits weights ≡ true → 1 ≡ lines-refusal lits weights
+  unfolding lines-refusal first-of
+  lines-1 a = sym (ap (λ (x : Bool). cond x 1 (cond (literal-unlawful lits) 2 (cond (not (all lawful-weight weights)) 4 0))) a)
 
--- 7 where there are few inputs
-pub room : (lits : List ℤ) (store : List ℕ) → length lits ≤ 256 → ltb (length store / 8) (2 * length lits) ≡ start-no-room lits store
+  pub lines-2 : lists-differ lits weights ≡ false → literal-unlawful lits ≡ true → 2 ≡ lines-refusal lits weights
+  unfolding lines-refusal first-of
+  lines-2 a b = sym (ap₂ (λ (x y : Bool). cond x 1 (cond y 2 (cond (not (all lawful-weight weights)) 4 0))) a b)
+
+  pub lines-rest : (c : Bool) (n : ℕ) → lists-differ lits weights ≡ false → literal-unlawful lits ≡ false → not (all lawful-weight weights) ≡ c → n ≡ cond c 4 0 → n ≡ lines-refusal lits weights
+  unfolding lines-refusal first-of
+  lines-rest c n a b e p = p ∙ sym (ap₂ (λ (x y : Bool). cond x 1 (cond y 2 (cond (not (all lawful-weight weights)) 4 0))) a b ∙ ap (λ (z : Bool). cond z 4 0) e)
+
+  -- lines that are refused one by one are a refused list
+  pub lines-list : (n : ℕ) → n ≡ lines-refusal lits weights → (n ≡ 0 → ⊥) → list-refusal lits weights ≡ n
+  unfolding lines-refusal list-refusal first-of weight-unlawful
+  lines-list n e z = go (lists-differ lits weights) (literal-unlawful lits) (all lawful-weight weights) (not (all (λ w. leb w 1048575) (combined-weights lits weights))) e
+    where
+      go : (a b c d : Bool) → n ≡ cond a 1 (cond b 2 (cond (not c) 4 0)) → cond a 1 (cond b 2 (cond (not c || d) 4 0)) ≡ n
+      go true b c d e = sym e
+      go false true c d e = sym e
+      go false false false d e = sym e
+      go false false true d e = absurd (z e)
+
+  -- and where they are not, the combined weights decide
+  pub record Sent : Type 0 where
+    pub unequal : lists-differ lits weights ≡ false
+    pub unlawful : literal-unlawful lits ≡ false
+    pub light : all lawful-weight weights ≡ true
+
+  pub sent : (n : ℕ) → n ≡ lines-refusal lits weights → n ≡ 0 → Sent
+  unfolding lines-refusal first-of
+  sent n e z = go (lists-differ lits weights) refl (literal-unlawful lits) refl (all lawful-weight weights) refl (sym e ∙ z)
+    where
+      go : (a : Bool) → lists-differ lits weights ≡ a → (b : Bool) → literal-unlawful lits ≡ b → (c : Bool) → all lawful-weight weights ≡ c → _≡_ {A = ℕ} (cond a 1 (cond b 2 (cond (not c) 4 0))) 0 → Sent
+      go true a b p c q e = absurd (omega arith)
+      go false a true p c q e = absurd (omega arith)
+      go false a false p false q e = absurd (omega arith)
+      go false a false p true q e = record { unequal = a; unlawful = p; light = q }
+
+  pub lines-are : Sent → Lines lits weights
+  unfolding lists-differ
+  lines-are s =
+      let (p, q) = neither (not (eqb (length lits) (length weights))) (ltb 256 (length lits)) (s .unequal) in
+      record { lengths = eqb-true (length lits) (length weights) (not-not _ p); few = ltb-false 256 (length lits) q; lawful = s .light }
+
+  pub list-decided : (h : Bool) → Sent → not (all (λ w. leb w 1048575) (combined-weights lits weights)) ≡ h → list-refusal lits weights ≡ cond h 4 0
+  unfolding list-refusal first-of weight-unlawful
+  list-decided h s e =
+      ap₂ (λ (x y : Bool). cond x 1 (cond y 2 (cond (not (all lawful-weight weights) || not (all (λ w. leb w 1048575) (combined-weights lits weights))) 4 0))) (s .unequal) (s .unlawful) ∙
+      ap₂ (λ (x y : Bool). cond (not x || y) 4 0) (s .light) e
+
+  -- a refused list is handed back empty
+  pub refused-list : (n : ℕ) → list-refusal lits weights ≡ n → (n ≡ 0 → ⊥) → list-of n [] [] ≡ checked lits weights
+  unfolding checked checked-end
+  refused-list zero e z = absurd (z refl)
+  refused-list (suc n) e z = sym (ap (λ (k : ℕ). checked-end k (combined-literals lits) (combined-weights lits weights)) e)
+
+  pub accepted-list : (r : Combined) → list-refusal lits weights ≡ 0 → r ≡ list-of 0 (combined-literals lits) (combined-weights lits weights) → r ≡ checked lits weights
+  unfolding checked checked-end
+  accepted-list r e p = p ∙ sym (ap (λ (k : ℕ). checked-end k (combined-literals lits) (combined-weights lits weights)) e)
+
+  -- the refusal of a checked list, and its count where there is none
+  checked-refusal : (n : ℕ) → checked-end n (combined-literals lits) (combined-weights lits weights) .refusal ≡ n
+  unfolding checked-end list-of
+  checked-refusal zero = refl
+  checked-refusal (suc n) = refl
+
+  pub list-refused : (r : Combined) → r ≡ checked lits weights → r .refusal ≡ list-refusal lits weights
+  unfolding checked
+  list-refused r e = ap (λ (x : Combined). x .refusal) e ∙ checked-refusal (list-refusal lits weights)
+
+  pub list-used : (r : Combined) → r ≡ checked lits weights → list-refusal lits weights ≡ 0 → r .used ≡ length (combined-literals lits)
+  unfolding checked checked-end list-of
+  list-used r e z = ap (λ (x : Combined). x .used) (e ∙ ap (λ (k : ℕ). checked-end k (combined-literals lits) (combined-weights lits weights)) z)
+
+  module _ (first : ℕ) (store : List ℕ) where
+    -- the list's refusal comes before 5 and 7
+    behind : (a b c d e : Bool) → _≡_ {A = ℕ} (cond a 1 (cond b 2 (cond c 4 (cond d 5 (cond e 7 0))))) (cond (eqb (cond a 1 (cond b 2 (cond c 4 0))) 0) (cond d 5 (cond e 7 0)) (cond a 1 (cond b 2 (cond c 4 0))))
+    behind true b c d e = refl
+    behind false true c d e = refl
+    behind false false true d e = refl
+    behind false false false d e = refl
+
+    in-order : (n : ℕ) → list-refusal lits weights ≡ n → start-refusal lits weights first store ≡ cond (eqb n 0) (cond (fresh-unlawful lits first) 5 (cond (start-no-room lits store) 7 0)) n
+    unfolding start-refusal list-refusal first-of
+    in-order n e =
+        behind (lists-differ lits weights) (literal-unlawful lits) (weight-unlawful lits weights) (fresh-unlawful lits first) (start-no-room lits store) ∙
+        ap (λ (k : ℕ). cond (eqb k 0) (cond (fresh-unlawful lits first) 5 (cond (start-no-room lits store) 7 0)) k) e
+
+    pub by-list : (n : ℕ) → list-refusal lits weights ≡ n → (n ≡ 0 → ⊥) → n ≡ start-refusal lits weights first store
+    by-list n e z = sym (in-order n e ∙ ap (λ (b : Bool). cond b (cond (fresh-unlawful lits first) 5 (cond (start-no-room lits store) 7 0)) n) (ne-eqb n 0 z))
+
+    pub by-fresh : (n : ℕ) → list-refusal lits weights ≡ n → n ≡ 0 → fresh-unlawful lits first ≡ true → 5 ≡ start-refusal lits weights first store
+    by-fresh n e z f =
+        sym (in-order n e ∙ ap₂ (λ (b c : Bool). cond b (cond c 5 (cond (start-no-room lits store) 7 0)) n) (eq-eqb n 0 z) f)
+
+    pub by-room : (n : ℕ) (b : Bool) (r : ℕ) → list-refusal lits weights ≡ n → n ≡ 0 → fresh-unlawful lits first ≡ false → start-no-room lits store ≡ b → r ≡ cond b 7 0 → r ≡ start-refusal lits weights first store
+    by-room n b r e z f g p =
+        p ∙ sym (in-order n e ∙ (ap₂ (λ (x y : Bool). cond x (cond y 5 (cond (start-no-room lits store) 7 0)) n) (eq-eqb n 0 z) f ∙ ap (λ (x : Bool). cond x 7 0) g))
+
+  -- an accepted list has lawful literals, and few
+  pub list-lawful : list-refusal lits weights ≡ 0 → (all lawful lits ≡ true) × (length lits ≤ 256)
+  unfolding list-refusal first-of literal-unlawful lists-differ
+  list-lawful e =
+      let (one, e₁) = first-not 0 (lists-differ lits weights) _ e in
+      let (two, e₂) = first-not 1 (literal-unlawful lits) _ e₁ in
+      (not-not (all lawful lits) two, ltb-false 256 (length lits) (neither (not (eqb (length lits) (length weights))) (ltb 256 (length lits)) one .1))
+    where
+      first-not : (k : ℕ) (b : Bool) (rest : ℕ) → cond b (suc k) rest ≡ 0 → (b ≡ false) × (rest ≡ 0)
+      first-not k true rest e = absurd (omega arith)
+      first-not k false rest e = (refl, e)
+
+-- so it has few inputs
+pub list-few : (lits : List ℤ) (weights : List ℕ) (r : Combined) → r ≡ checked lits weights → list-refusal lits weights ≡ 0 → r .used ≤ 256
+list-few lits weights r e z = omega (arith, list-used lits weights r e z, combined-few lits, list-lawful lits weights z .1)
+
+-- 7 where there are few inputs, which never pass the largest count of records
+pub no-room : (lits : List ℤ) (store : List ℕ) (k n : ℕ) → k ≡ length store / 8 → n ≡ length (combined-literals lits) → length lits ≤ 256 → k < 2 * n → start-no-room lits store ≡ true
 unfolding start-no-room capacity
-room lits store h =
-    let k : 2 * length lits ≤ 512 = omega arith in
-    go (length store / 8) (2 * length lits) (ltb (length store / 8) (2 * length lits)) k refl
-  where
-    go : (n k : ℕ) (b : Bool) → k ≤ 512 → ltb n k ≡ b → b ≡ ltb (min n 4294967296) k
-    go n k true h e = sym (lt-ltb (min n 4294967296) k (omega (arith, ltb-true n k e)))
-    go n k false h e = sym (le-ltb (min n 4294967296) k (omega (arith, ltb-false n k e)))
+no-room lits store k n e f h p =
+    lt-ltb (min (length store / 8) 4294967296) (2 * length (combined-literals lits)) (omega (arith, combined-few lits))
 
--- the numbers of six tests, in start's order
-unfoldable order : (a b c d e f : Bool) → ℕ
-order a b c d e f = first-of ((1, a) ∷ (2, b) ∷ (3, c) ∷ (4, d) ∷ (5, e) ∷ (7, f) ∷ [])
-
-tests-in-order : (a b c d e f a′ b′ c′ d′ e′ f′ : Bool) → a ≡ a′ → b ≡ b′ → c ≡ c′ → d ≡ d′ → e ≡ e′ → f ≡ f′ → order a b c d e f ≡ order a′ b′ c′ d′ e′ f′
-tests-in-order a b c d e f a′ b′ c′ d′ e′ f′ p q r s t u =
-    ap₂ (λ x y. order x y c d e f) p q ∙ (ap₂ (λ x y. order a′ b′ x y e f) r s ∙ ap₂ (λ x y. order a′ b′ c′ d′ x y) t u)
-
--- the six tests in turn
-module _ (lits : List ℤ) (weights : List ℕ) (first : ℕ) (store : List ℕ) where
-  pub gives-1 : lists-differ lits weights ≡ true → 1 ≡ start-refusal lits weights first store
-  unfolding start-refusal order first-of
-  gives-1 a = sym (tests-in-order (lists-differ lits weights) (literal-unlawful lits) (literal-twice lits) (weight-unlawful weights) (fresh-unlawful lits first) (start-no-room lits store) true (literal-unlawful lits) (literal-twice lits) (weight-unlawful weights) (fresh-unlawful lits first) (start-no-room lits store) a refl refl refl refl refl)
-
-  pub gives-2 : lists-differ lits weights ≡ false → literal-unlawful lits ≡ true → 2 ≡ start-refusal lits weights first store
-  unfolding start-refusal order first-of
-  gives-2 a b = sym (tests-in-order (lists-differ lits weights) (literal-unlawful lits) (literal-twice lits) (weight-unlawful weights) (fresh-unlawful lits first) (start-no-room lits store) false true (literal-twice lits) (weight-unlawful weights) (fresh-unlawful lits first) (start-no-room lits store) a b refl refl refl refl)
-
-  pub gives-3 : lists-differ lits weights ≡ false → literal-unlawful lits ≡ false → literal-twice lits ≡ true → 3 ≡ start-refusal lits weights first store
-  unfolding start-refusal order first-of
-  gives-3 a b c = sym (tests-in-order (lists-differ lits weights) (literal-unlawful lits) (literal-twice lits) (weight-unlawful weights) (fresh-unlawful lits first) (start-no-room lits store) false false true (weight-unlawful weights) (fresh-unlawful lits first) (start-no-room lits store) a b c refl refl refl)
-
-  pub gives-4 : lists-differ lits weights ≡ false → literal-unlawful lits ≡ false → literal-twice lits ≡ false → weight-unlawful weights ≡ true → 4 ≡ start-refusal lits weights first store
-  unfolding start-refusal order first-of
-  gives-4 a b c d = sym (tests-in-order (lists-differ lits weights) (literal-unlawful lits) (literal-twice lits) (weight-unlawful weights) (fresh-unlawful lits first) (start-no-room lits store) false false false true (fresh-unlawful lits first) (start-no-room lits store) a b c d refl refl)
-
-  pub gives-5 : lists-differ lits weights ≡ false → literal-unlawful lits ≡ false → literal-twice lits ≡ false → weight-unlawful weights ≡ false → fresh-unlawful lits first ≡ true → 5 ≡ start-refusal lits weights first store
-  unfolding start-refusal order first-of
-  gives-5 a b c d e = sym (tests-in-order (lists-differ lits weights) (literal-unlawful lits) (literal-twice lits) (weight-unlawful weights) (fresh-unlawful lits first) (start-no-room lits store) false false false false true (start-no-room lits store) a b c d e refl)
-
-  pub gives-7 : lists-differ lits weights ≡ false → literal-unlawful lits ≡ false → literal-twice lits ≡ false → weight-unlawful weights ≡ false → fresh-unlawful lits first ≡ false → start-no-room lits store ≡ true → 7 ≡ start-refusal lits weights first store
-  unfolding start-refusal order first-of
-  gives-7 a b c d e f = sym (tests-in-order (lists-differ lits weights) (literal-unlawful lits) (literal-twice lits) (weight-unlawful weights) (fresh-unlawful lits first) (start-no-room lits store) false false false false false true a b c d e f)
-
-  pub gives-0 : lists-differ lits weights ≡ false → literal-unlawful lits ≡ false → literal-twice lits ≡ false → weight-unlawful weights ≡ false → fresh-unlawful lits first ≡ false → start-no-room lits store ≡ false → 0 ≡ start-refusal lits weights first store
-  unfolding start-refusal order first-of
-  gives-0 a b c d e f = sym (tests-in-order (lists-differ lits weights) (literal-unlawful lits) (literal-twice lits) (weight-unlawful weights) (fresh-unlawful lits first) (start-no-room lits store) false false false false false false a b c d e f)
+pub room : (lits : List ℤ) (store : List ℕ) (k n : ℕ) → k ≡ length store / 8 → n ≡ length (combined-literals lits) → length lits ≤ 256 → 2 * n ≤ k → start-no-room lits store ≡ false
+unfolding start-no-room capacity
+room lits store k n e f h p =
+    le-ltb (min (length store / 8) 4294967296) (2 * length (combined-literals lits)) (omega (arith, combined-few lits))
 
 -- no unlawful literal
 pub lawful-all : (lits : List ℤ) (b : Bool) → b ≡ literal-unlawful lits → b ≡ false → all lawful lits ≡ true

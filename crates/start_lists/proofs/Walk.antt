@@ -1,12 +1,12 @@
 -- A walk along a list asked whether all pass a test, and the words of the literals.
-use mathlib.Core.Path.{_≡_, refl, sym, ap, _∙_}
+use mathlib.Core.Path.{_≡_, refl, ap}
 use mathlib.Core.Bool.{Bool, true, false, not}
 use mathlib.Core.List.{List, [], _∷_}
 use Prim.Native.Nat.{ℕ, zero, suc, _+_, _≤_, _<_}
 use native.Mathlib.Omega.{arith}
 use lib.ListN.{length, getD, drop}
 use lib.IntN.{ℤ}
-use Rattle.rules.specs.Lists.{all, among}
+use Rattle.rules.specs.Lists.{all}
 use Rattle.rules.specs.Numbers.{lawful}
 use Rattle.numbers.specs.Signed.{signed-at, word-or-none}
 use Rattle.check_arrays.proofs.Walk.{along-on, along-stop, along-end}
@@ -44,8 +44,3 @@ word-there [] zero = refl
 word-there [] (suc i) = refl
 word-there (x ∷ lits) zero = refl
 word-there (x ∷ lits) (suc i) = word-there lits i
-
--- what `stands` answers of the word at i
-pub word-again : (lits : List ℤ) (i w : ℕ) (b : Bool) → w ≡ word-or-none (signed-at lits i) → b ≡ among (drop (i + 1) (words lits)) w →
-    b ≡ among (drop (i + 1) (words lits)) (getD (words lits) i 0)
-word-again lits i w b p q = q ∙ ap (among (drop (i + 1) (words lits))) (p ∙ sym (word-there lits i))

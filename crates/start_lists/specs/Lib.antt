@@ -1,2 +1,3 @@
--- The words of the literals lent.
+-- The words of the literals lent, and their combined list.
 pub mod Literals
+pub mod Lines

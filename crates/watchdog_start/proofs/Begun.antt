@@ -1,47 +1,34 @@
--- An accepted start holds exactly the new build; a refused one holds what it was lent.
+-- An accepted start holds exactly the new build of the combined list; a refused one holds what it was lent.
 use mathlib.Core.Path.{_≡_, refl, sym, ap, ap₂, _∙_, subst}
-use mathlib.Core.Bool.{true}
-use mathlib.Core.List.{List, [], _++_}
+use mathlib.Core.Bool.{Bool, true, false, cond}
+use mathlib.Core.List.{List, [], _++_, map}
 use Prim.Native.Nat.{ℕ, zero, suc, _+_, _*_, _-_, _≤_, max}
 use native.Mathlib.Omega.{arith}
 use borrow.Author.Tests.{le-leb}
-use lib.ListN.{length, take, replicate, length-append}
+use lib.ListN.{length, take, replicate, length-append, length-map}
+use lib.Seq.{take-at}
 use lib.IntN.{ℤ, pos}
 use Rattle.rules.specs.declared.State.{State}
+use Rattle.rules.specs.declared.Combined.{Combined}
 use Rattle.rules.specs.declared.Answer.the-variants.{Accepted, Refused}
 use Rattle.rules.specs.Lists.{all, total, padded}
-use Rattle.rules.specs.Numbers.{lawful, lawful-weight, capacity}
-use Rattle.rules.specs.Records.{imageOf, recordsOf}
+use Rattle.rules.specs.Numbers.{lawful-weight, capacity}
+use Rattle.rules.specs.Records.{imageOf, recordsOf, literal-word}
 use Rattle.rules.specs.Totalizer.{Arena}
-use Rattle.rules.specs.Refusals.{answer-of}
-use Rattle.rules.specs.Build.{records, stateOf, clause-words, clause-mark, clause-total, variable-total}
-use Rattle.rules.specs.Start.{new-build, zero-state, start-refusal, start-end, start}
+use Rattle.rules.specs.Combined.{combined-literals, combined-weights}
+use Rattle.rules.specs.Refusals.{first-of, lists-differ, literal-unlawful, weight-unlawful, fresh-unlawful, answer-of}
+use Rattle.rules.specs.Build.{Build, records, stateOf, clause-words, clause-mark, clause-total, variable-total}
+use Rattle.rules.specs.Start.{list-refusal, list-of, checked-end, checked, start-no-room, new-build, zero-state, start-refusal, start-end, start}
 use Rattle.laws.specs.Lists.Facts.{and-true, facts-all}
 use Rattle.preserve.specs.Starts.{Lent as Lent-lists, lent}
 use Rattle.records.specs.declared.Marks.{Marks}
 use Rattle.records.specs.Carries.{St, st, Fits, Carries, Steps, Lent, written, peak, read-arena, with-records}
 use Rattle.records.proofs.Grow.{peak-append}
 use Rattle.records.proofs.Entry.{begins, held-zeroed}
-use Rattle.watchdog_start.specs.Writing.{with-more, leaf-records, wait-records, blank-marks, state-with}
+use Rattle.watchdog_start.specs.Writing.{with-more, leaf-records, wait-records, blank-marks, state-with, Begun, Inputs}
 use Rattle.watchdog_start.proofs.Written.{leaves-length, waits-length, leaves-peak, waits-peak}
 
-module _ (lits : List ℤ) (weights : List ℕ) (first : ℕ) (store : List ℕ) (ok : start-refusal lits weights first store ≡ 0) where
-  facts : Lent-lists lits weights first store
-  facts = lent lits weights first store ok
-
-  pub all-lawful : all lawful lits ≡ true
-  all-lawful = facts-all lawful (λ x h. h) lits (facts .literals)
-
-  pub all-small : all lawful-weight weights ≡ true
-  unfolding lawful-weight
-  all-small = facts-all lawful-weight (λ w h. and-true (le-leb 1 w (h .0)) (le-leb w 1048575 (h .1))) weights (facts .weights)
-
-  pub few-lits : length lits ≤ 256
-  few-lits = facts .few
-
-  pub few-weights : length weights ≤ 256
-  few-weights = omega (arith, facts .few, facts .lengths)
-
+module _ (lits : List ℤ) (weights : List ℕ) (first : ℕ) (store : List ℕ) (facts : Lent-lists lits weights first store) where
   -- the memory as start finds it: nothing is used
   entry : St
   entry = st store [] (blank-marks first)
@@ -96,22 +83,22 @@ module _ (lits : List ℤ) (weights : List ℕ) (first : ℕ) (store : List ℕ)
   unfolding leaf-records wait-records records new-build
   as-built = refl
 
-  -- the store of an accepted start
-  pub begun : (m₀ m₁ m₂ : Marks) (s₁ s₂ : List ℕ) → m₀ ≡ blank-marks first →
+  -- the store of an accepted start, n being its inputs
+  begun-store : (n : ℕ) (m₀ m₁ m₂ : Marks) (s₁ s₂ : List ℕ) → n ≡ length lits → m₀ ≡ blank-marks first →
       ((c : List ℤ) → Steps (st store c m₀) (st s₁ c m₁) (with-more (leaf-records lits))) →
       ((c : List ℤ) → Steps (st s₁ c m₁) (st s₂ c m₂) (with-more (wait-records weights))) →
-      padded 0 (length s₂) (take (16 * length lits) s₂) ≡ padded 0 (length store) (imageOf (records (new-build lits weights first)))
+      padded 0 (length s₂) (take (16 * n) s₂) ≡ padded 0 (length store) (imageOf (records (new-build lits weights first)))
   unfolding entry left-behind
-  begun m₀ m₁ m₂ s₁ s₂ e p q =
+  begun-store n m₀ m₁ m₂ s₁ s₂ is e p q =
       let p′ : Steps entry (st s₁ [] m₁) (with-more (leaf-records lits)) = subst (λ m. Steps (st store [] m) (st s₁ [] m₁) (with-more (leaf-records lits))) e (p []) in
       let h : Carries entry (st s₂ [] m₂) left-behind = q [] .go entry _ (p′ .go entry _ (begins entry unused)) in
       let held = h .fit enough in
-      let n : 16 * length lits ≡ 8 * m₂ .records = omega (arith, held .records-is, many) in
-      ap (λ (k : ℕ). padded 0 (length s₂) (take k s₂)) n ∙
+      let k : 16 * n ≡ 8 * m₂ .records = omega (arith, held .records-is, many) in
+      ap (λ (j : ℕ). padded 0 (length s₂) (take j s₂)) k ∙
       (held-zeroed entry (st s₂ [] m₂) left-behind enough held .0 ∙ ap (λ rs. padded 0 (length store) (imageOf rs)) (records-are ∙ as-built))
 
   -- its state
-  pub begun-state : (t : ℕ) → t ≡ total weights → state-with (length lits) t 1 (2 * length lits) first ≡ stateOf (new-build lits weights first)
+  begun-state : (t : ℕ) → t ≡ total weights → state-with (length lits) t 1 (2 * length lits) first ≡ stateOf (new-build lits weights first)
   unfolding stateOf new-build state-with clause-mark clause-total clause-words variable-total padded
   begun-state t e =
       let n : 2 * length lits ≡ length (records (new-build lits weights first)) = sym many ∙ ap length (records-are ∙ as-built) in
@@ -133,16 +120,80 @@ module _ (lits : List ℤ) (weights : List ℕ) (first : ℕ) (store : List ℕ)
         «buckets_used» = 0;
       }) v
 
+  -- both, from what each part promises
+  pub begun : (n t : ℕ) (a : State) (m₀ m₁ m₂ : Marks) (s₁ s₂ s₃ : List ℕ) → n ≡ length lits → t ≡ total weights → a ≡ state-with n t 1 (2 * n) first → m₀ ≡ blank-marks first →
+      ((c : List ℤ) → Steps (st store c m₀) (st s₁ c m₁) (with-more (leaf-records lits))) →
+      ((c : List ℤ) → Steps (st s₁ c m₁) (st s₂ c m₂) (with-more (wait-records weights))) →
+      s₃ ≡ padded 0 (length s₂) (take (16 * n) s₂) → Begun (new-build lits weights first) store a s₃
+  begun n t a m₀ m₁ m₂ s₁ s₂ s₃ is all e b p q z = record {
+    state-is = e ∙ (ap (λ (k : ℕ). state-with k t 1 (2 * k) first) is ∙ begun-state t all);
+    store-is = z ∙ begun-store n m₀ m₁ m₂ s₁ s₂ is b p q;
+  }
+
+-- the used slots of a list
+front : {A : Type 0} (z : A) (xs : List A) (n : ℕ) → n ≡ length xs → take n (padded z 256 xs) ≡ xs
+unfolding padded
+front z xs n e = take-at xs (replicate (256 - length xs) z) n (sym e)
+
+pub listed : (list : Combined) (lits : List ℤ) (weights : List ℕ) → list ≡ list-of 0 lits weights → length lits ≡ length weights →
+    (take (list .used) (list .literals) ≡ map literal-word lits) × (take (list .used) (list .weights) ≡ weights)
+unfolding list-of
+listed list lits weights e same = (
+  ap (λ (l : Combined). take (l .used) (l .literals)) e ∙ front 0 (map literal-word lits) (length lits) (sym (length-map lits literal-word)),
+  ap (λ (l : Combined). take (l .used) (l .weights)) e ∙ front 0 weights (length lits) same,
+)
+
+pub begun-list : (list : Combined) (lits : List ℤ) (weights : List ℕ) (first : ℕ) (store : List ℕ) (a : State) (s : List ℕ) → list ≡ list-of 0 lits weights → Lent-lists lits weights first store →
+    ((xs : List ℤ) → take (list .used) (list .literals) ≡ map literal-word xs → Lent-lists xs (take (list .used) (list .weights)) first store →
+    Begun (new-build xs (take (list .used) (list .weights)) first) store a s) → Begun (new-build lits weights first) store a s
+begun-list list lits weights first store a s e l f =
+    let (ls, ws) = listed list lits weights e (l .lengths) in
+    subst (λ (v : List ℕ). Begun (new-build lits v first) store a s) ws (f lits ls (subst (λ (v : List ℕ). Lent-lists lits v first store) (sym ws) l))
+
+-- the list of an accepted start
+module _ (lits : List ℤ) (weights : List ℕ) (first : ℕ) (store : List ℕ) (list : Combined) (is : list ≡ checked lits weights) (n : ℕ) (from : n ≡ start-refusal lits weights first store) (none : n ≡ 0) where
+  pub given : Lent-lists (combined-literals lits) (combined-weights lits weights) first store
+  given = lent lits weights first store (sym from ∙ none)
+
+  no-list-refusal : list-refusal lits weights ≡ 0
+  unfolding start-refusal list-refusal first-of
+  no-list-refusal = go (lists-differ lits weights) (literal-unlawful lits) (weight-unlawful lits weights) (sym from ∙ none)
+    where
+      go : (a b c : Bool) → _≡_ {A = ℕ} (cond a 1 (cond b 2 (cond c 4 (cond (fresh-unlawful lits first) 5 (cond (start-no-room lits store) 7 0))))) 0 → _≡_ {A = ℕ} (cond a 1 (cond b 2 (cond c 4 0))) 0
+      go true b c e = absurd (omega arith)
+      go false true c e = absurd (omega arith)
+      go false false true e = absurd (omega arith)
+      go false false false e = refl
+
+  pub list-is : list ≡ list-of 0 (combined-literals lits) (combined-weights lits weights)
+  unfolding checked checked-end
+  list-is = is ∙ ap (λ (k : ℕ). checked-end k (combined-literals lits) (combined-weights lits weights)) no-list-refusal
+
+  pub inputs : Inputs list
+  unfolding list-of lawful-weight padded
+  inputs =
+      let (ls, ws) = listed list (combined-literals lits) (combined-weights lits weights) list-is (given .lengths) in
+      let used : list .used ≡ length (combined-literals lits) = ap (λ (l : Combined). l .used) list-is in
+      record {
+        few = omega (arith, used, given .few);
+        in-literals = inside (map literal-word (combined-literals lits)) (list .literals) (ap (λ (l : Combined). l .literals) list-is) (omega (arith, length-map (combined-literals lits) literal-word));
+        in-weights = inside (combined-weights lits weights) (list .weights) (ap (λ (l : Combined). l .weights) list-is) (omega (arith, used, given .lengths));
+        weights-lawful = ap (all lawful-weight) ws ∙ facts-all lawful-weight (λ w h. and-true (le-leb 1 w (h .0)) (le-leb w 1048575 (h .1))) (combined-weights lits weights) (given .weights);
+      }
+    where
+      inside : (xs slots : List ℕ) → slots ≡ padded 0 256 xs → list .used ≤ length xs → list .used ≤ length slots
+      inside xs slots e h = omega (arith, ap length e, length-append xs (replicate (256 - length xs) 0))
+
 -- the answers
-pub accepted : (lits : List ℤ) (weights : List ℕ) (first : ℕ) (store s : List ℕ) (clauses c : List ℤ) (a : State) → start-refusal lits weights first store ≡ 0 →
-    a ≡ stateOf (new-build lits weights first) → s ≡ padded 0 (length store) (imageOf (records (new-build lits weights first))) →
-    c ≡ padded (pos 0) (length clauses) [] →
+pub accepted : (lits : List ℤ) (weights : List ℕ) (first : ℕ) (store s : List ℕ) (clauses c : List ℤ) (a : State) (n : ℕ) → n ≡ start-refusal lits weights first store → n ≡ 0 →
+    Begun (new-build (combined-literals lits) (combined-weights lits weights) first) store a s → c ≡ padded (pos 0) (length clauses) [] →
     record { answer = record { answer = Accepted; state = a }; store = s; clauses = c } ≡ start lits weights first store clauses
 unfolding start start-end answer-of
-accepted lits weights first store s clauses c a ok p q r =
-    ap (λ (x : State). record { answer = record { answer = Accepted; state = x }; store = s; clauses = c }) p ∙
-    (ap₂ (λ x y. record { answer = record { answer = Accepted; state = stateOf (new-build lits weights first) }; store = x; clauses = y }) q r ∙
-    sym (ap (λ (n : ℕ). start-end n (new-build lits weights first) store clauses) ok))
+accepted lits weights first store s clauses c a n e z h r =
+    let b : Build = new-build (combined-literals lits) (combined-weights lits weights) first in
+    ap (λ (x : State). record { answer = record { answer = Accepted; state = x }; store = s; clauses = c }) (h .state-is) ∙
+    (ap₂ (λ x y. record { answer = record { answer = Accepted; state = stateOf b }; store = x; clauses = y }) (h .store-is) r ∙
+    sym (ap (λ (k : ℕ). start-end k b store clauses) (sym e ∙ z)))
 
 pub refused : (lits : List ℤ) (weights : List ℕ) (first : ℕ) (store : List ℕ) (clauses : List ℤ) (a : State) (n : ℕ) → n ≡ start-refusal lits weights first store →
     (n ≡ 0 → ⊥) → a ≡ state-with 0 0 0 0 0 →
@@ -151,4 +202,4 @@ unfolding start start-end answer-of zero-state state-with
 refused lits weights first store clauses a zero e z p = absurd (z refl)
 refused lits weights first store clauses a (suc n) e z p =
     ap (λ (x : State). record { answer = record { answer = Refused (suc n); state = x }; store = store; clauses = clauses }) p ∙
-    ap (λ (k : ℕ). start-end k (new-build lits weights first) store clauses) e
+    ap (λ (k : ℕ). start-end k (new-build (combined-literals lits) (combined-weights lits weights) first) store clauses) e

@@ -1,20 +1,19 @@
 -- What start writes, record by record.
 use mathlib.Core.Path.{_≡_, refl, sym, ap, _∙_}
-use mathlib.Core.Bool.{Bool, true, cond}
+use mathlib.Core.Bool.{Bool, true}
 use mathlib.Core.List.{List, [], _∷_, _++_, map, zipWith, append-assoc, append-nil}
 use Prim.Native.Nat.{ℕ, zero, suc, _+_, _*_, _≤_, _<_}
 use native.Mathlib.Omega.{arith}
 use borrow.Author.Tests.{leb-true}
 use lib.Dec.{leb}
-use lib.ListN.{length, getD, take, drop, drop-of-length-le}
+use lib.ListN.{length, getD, take, drop, drop-of-length-le, length-map}
 use lib.Seq.{take-suc, take-all, drop-cons}
 use lib.IntN.{ℤ, pos}
 use Rattle.rules.specs.Lists.{all, total, rising}
-use Rattle.rules.specs.Numbers.{lawful, lawful-weight}
+use Rattle.rules.specs.Numbers.{lawful-weight}
 use Rattle.rules.specs.Records.{Record, node-of, node, waiting, unknown, leaf-node, literal-word}
 use Rattle.rules.specs.Totalizer.{Arena, add}
 use Rattle.laws.specs.Records.Words.{both}
-use Rattle.numbers.specs.Signed.{signed-at, word-or-none}
 use Rattle.records.specs.Carries.{St, Steps, Makes, with-records, with-record, on-records, peak, size}
 use Rattle.records.proofs.Step.{steps-none, steps-then, steps-same, makes-steps}
 use Rattle.watchdog_start.specs.Writing.{with-more, leaf-records, wait-records}
@@ -52,14 +51,23 @@ unfolding leaf-records
 leaves-length [] = refl
 leaves-length (x ∷ lits) = ap suc (leaves-length lits)
 
-pub leaves-over : (lits : List ℤ) (i : ℕ) → length lits ≤ i → length (leaf-records lits) ≤ i
-leaves-over lits i h = omega (arith, leaves-length lits)
+pub leaves-over : (literals : List ℕ) (lits : List ℤ) (i : ℕ) → literals ≡ map literal-word lits → length literals ≤ i → length (leaf-records lits) ≤ i
+leaves-over literals lits i e h = omega (arith, leaves-length lits, ap length e, length-map lits literal-word)
 
-leaf-there : (lits : List ℤ) (i : ℕ) → i < length lits → getD (leaf-records lits) i unknown ≡ node (leaf-node (signed-at lits i))
-unfolding leaf-records signed-at
+leaf-there : (lits : List ℤ) (i : ℕ) → i < length lits → getD (leaf-records lits) i unknown ≡ node (leaf-node (getD lits i (pos 0)))
+unfolding leaf-records
 leaf-there [] i h = absurd (omega arith)
 leaf-there (x ∷ lits) zero h = refl
 leaf-there (x ∷ lits) (suc i) h = leaf-there lits i (omega arith)
+
+-- the word of a literal at its place
+pub word-there : (literals : List ℕ) (lits : List ℤ) (i : ℕ) → literals ≡ map literal-word lits → i < length literals → getD literals i 0 ≡ literal-word (getD lits i (pos 0))
+word-there literals lits i e h = ap (λ (ws : List ℕ). getD ws i 0) e ∙ go lits i (omega (arith, ap length e, length-map lits literal-word))
+  where
+    go : (xs : List ℤ) (j : ℕ) → j < length xs → getD (map literal-word xs) j 0 ≡ literal-word (getD xs j (pos 0))
+    go [] j h = absurd (omega arith)
+    go (x ∷ xs) zero h = refl
+    go (x ∷ xs) (suc j) h = go xs j (omega arith)
 
 -- every element passes where all do
 all-there : {A : Type 0} (p : A → Bool) (d : A) (xs : List A) (i : ℕ) → all p xs ≡ true → i < length xs → p (getD xs i d) ≡ true
@@ -68,16 +76,13 @@ all-there p d [] i h k = absurd (omega arith)
 all-there p d (x ∷ xs) zero h k = both (p x) (all p xs) h .0
 all-there p d (x ∷ xs) (suc i) h k = all-there p d xs i (both (p x) (all p xs) h .1) (omega arith)
 
-pub literal-there : (lits : List ℤ) (i w : ℕ) → all lawful lits ≡ true → i < length lits → w ≡ word-or-none (signed-at lits i) → w ≡ literal-word (signed-at lits i)
-unfolding word-or-none signed-at
-literal-there lits i w h k e = e ∙ ap (λ (b : Bool). cond b (literal-word (signed-at lits i)) 0) (all-there lawful (pos 0) lits i h k)
-
-pub leaf-next : (σ τ υ : St) (lits : List ℤ) (i n : ℕ) → i < length lits → Steps σ τ (with-more (take i (leaf-records lits))) →
-    Makes τ υ n (on-records (λ rs. add rs (leaf-node (signed-at lits i)))) → Steps σ υ (with-more (take (i + 1) (leaf-records lits)))
+pub leaf-next : (σ τ υ : St) (literals : List ℕ) (lits : List ℤ) (i n : ℕ) → literals ≡ map literal-word lits → i < length literals → Steps σ τ (with-more (take i (leaf-records lits))) →
+    Makes τ υ n (on-records (λ rs. add rs (leaf-node (getD lits i (pos 0))))) → Steps σ υ (with-more (take (i + 1) (leaf-records lits)))
 unfolding on-records add with-record
-leaf-next σ τ υ lits i n h p q =
-    more-next σ τ υ (leaf-records lits) i (node (leaf-node (signed-at lits i))) (omega (arith, leaves-length lits)) (leaf-there lits i h) p
-    (makes-steps τ υ n (on-records (λ rs. add rs (leaf-node (signed-at lits i)))) q)
+leaf-next σ τ υ literals lits i n e h p q =
+    let there : i < length lits = omega (arith, ap length e, length-map lits literal-word) in
+    more-next σ τ υ (leaf-records lits) i (node (leaf-node (getD lits i (pos 0)))) (omega (arith, leaves-length lits)) (leaf-there lits i there) p
+    (makes-steps τ υ n (on-records (λ rs. add rs (leaf-node (getD lits i (pos 0))))) q)
 
 -- Waiting entries ------------------------------------------------------------------------------------------------------
 

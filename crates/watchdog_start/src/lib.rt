@@ -1,19 +1,20 @@
 // Start: a build over lent words, or a refusal that writes nothing.
 ghost use mathlib.Core.Path.{_≡_};
 ghost use mathlib.Core.Bool.{true};
-ghost use mathlib.Core.List.{List, []};
-ghost use Prim.Native.Nat.{_≤_};
+ghost use mathlib.Core.List.{List, [], map};
+ghost use Prim.Native.Nat.{ℕ, _≤_};
 ghost use lib.ListN.{length};
 ghost use lib.IntN.{ℤ, pos};
 ghost use Rattle.rules.specs.Lists.{all, total, padded};
-ghost use Rattle.rules.specs.Numbers.{lawful, lawful-weight};
-ghost use Rattle.rules.specs.Records.{imageOf};
-ghost use Rattle.rules.specs.Build.{records, stateOf};
-ghost use Rattle.rules.specs.Start.{new-build, start-refusal, start};
+ghost use Rattle.rules.specs.Numbers.{lawful-weight};
+ghost use Rattle.rules.specs.Records.{literal-word};
+ghost use Rattle.rules.specs.Start.{list-of, new-build, start};
+ghost use Rattle.preserve.specs.Starts.{Lent};
 ghost use Rattle.records.specs.Carries.{st, Steps};
-ghost use Rattle.watchdog_start.specs.Writing.{with-more, leaf-records, wait-records, blank-marks, state-with};
+ghost use Rattle.watchdog_start.specs.Writing.{with-more, leaf-records, wait-records, blank-marks, state-with, Begun, Inputs};
 use records::Marks;
 use rules::Answer;
+use rules::Combined;
 use rules::Started;
 use rules::State;
 
@@ -33,15 +34,15 @@ fn blank(first: u32) -> Marks
     }
 }
 
-// A leaf for each literal. Linear.
-fn leaves(s: &mut [u32], m: Marks, lits: &[i32]) -> Marks
-    requires { ⌜ all lawful (now lits) ≡ true ⌝ }
-    ensures { λ z. ⌜ ((c : List ℤ) → Steps (st (now (s .entry)) c m) (st (now (s .exit)) c z) (with-more (leaf-records (now (lits .entry))))) ⌝ }
+// A leaf for each literal, given by its word. Linear.
+fn leaves(s: &mut [u32], m: Marks, literals: &[u32]) -> Marks
+    ensures { λ z. ⌜ ((lits : List ℤ) → now (literals .entry) ≡ map literal-word lits → (c : List ℤ) →
+        Steps (st (now (s .entry)) c m) (st (now (s .exit)) c z) (with-more (leaf-records lits))) ⌝ }
 {
     let mut z = m;
     let mut i: usize = 0;
-    while i < lits.len() {
-        let leaf = records_append::leaf(s, z, numbers::word_at(lits, i));
+    while i < literals.len() {
+        let leaf = records_append::leaf(s, z, literals[i]);
         z = leaf.marks;
         i += 1;
     }
@@ -97,22 +98,47 @@ fn state(inputs: u32, sum: u64, set: u64, records: usize, first: u32) -> State
     }
 }
 
-// The records of a new build, all other words zeroed, and its state. Linear in the lists and the lent words.
-fn begin(lits: &[i32], weights: &[u64], first: u32, store: &mut [u32], clauses: &mut [i32]) -> State
-    requires { ⌜ start-refusal (now lits) (now weights) first (now store) ≡ 0 ⌝ }
-    ensures state { λ r. ⌜ r ≡ stateOf (new-build (now (lits .entry)) (now (weights .entry)) first) ⌝ }
-    ensures store { λ _. ⌜ now (store .exit) ≡ padded 0 (length (now (store .entry))) (imageOf (records (new-build (now (lits .entry)) (now (weights .entry)) first))) ⌝ }
+// The records of a new build of these inputs, all other words zeroed, and its state. Linear in the lists and the lent words.
+fn begin(
+    literals: &[u32],
+    weights: &[u64],
+    first: u32,
+    store: &mut [u32],
+    clauses: &mut [i32],
+) -> State
+    requires { ⌜ (all lawful-weight (now weights) ≡ true) × (length (now weights) ≤ 256) × (length (now literals) ≡ length (now weights)) ⌝ }
+    ensures begun { λ r. ⌜ ((lits : List ℤ) → now (literals .entry) ≡ map literal-word lits → Lent lits (now (weights .entry)) first (now (store .entry)) →
+        Begun (new-build lits (now (weights .entry)) first) (now (store .entry)) r (now (store .exit))) ⌝ }
     ensures clauses { λ _. ⌜ now (clauses .exit) ≡ padded (pos 0) (length (now (clauses .entry))) [] ⌝ }
 {
-    let m = leaves(store, blank(first), lits);
+    let m = leaves(store, blank(first), literals);
     waits(store, m, weights);
-    records_words::zero_words(store, INPUT_WORDS * lits.len());
+    records_words::zero_words(store, INPUT_WORDS * literals.len());
     records_words::zero_signed(clauses, 0);
-    state(lits.len() as u32, sum(weights), 1, 2 * lits.len(), first)
+    state(
+        literals.len() as u32,
+        sum(weights),
+        1,
+        2 * literals.len(),
+        first,
+    )
 }
 
-// Start. Linear in the lists and the lent words, but for the test that no literal stands twice, which is quadratic over at most
-// 256; a refusal reads the lists alone.
+// A new build of the combined list. Growth as that of `begin`.
+fn begin_list(list: Combined, first: u32, store: &mut [u32], clauses: &mut [i32]) -> State
+    requires { ⌜ Inputs list ⌝ }
+    ensures begun { λ r. ⌜ ((lits : List ℤ) (weights : List ℕ) → list ≡ list-of 0 lits weights → Lent lits weights first (now (store .entry)) →
+        Begun (new-build lits weights first) (now (store .entry)) r (now (store .exit))) ⌝ }
+    ensures clauses { λ _. ⌜ now (clauses .exit) ≡ padded (pos 0) (length (now (clauses .entry))) [] ⌝ }
+{
+    let literals = list.literals;
+    let weights = list.weights;
+    let n = list.used;
+    begin(&literals[..n], &weights[..n], first, store, clauses)
+}
+
+// Start. Linear in the lists and the lent words, but for combining the lines, which is quadratic over at most 256; a refusal
+// reads the lists alone.
 pub fn start(
     lits: &[i32],
     weights: &[u64],
@@ -122,11 +148,12 @@ pub fn start(
 ) -> Started
     ensures { λ r. ⌜ record { answer = r; store = now (store .exit); clauses = now (clauses .exit) } ≡ start (now (lits .entry)) (now (weights .entry)) first (now (store .entry)) (now (clauses .entry)) ⌝ }
 {
-    let n = start_lists::refusal(lits, weights, first, store);
+    let list = start_lists::check_list(lits, weights);
+    let n = start_lists::refusal(lits, weights, first, store, list);
     if n == 0 {
         return Started {
             answer: Answer::Accepted,
-            state: begin(lits, weights, first, store, clauses),
+            state: begin_list(list, first, store, clauses),
         };
     }
     Started {

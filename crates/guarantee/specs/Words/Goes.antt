@@ -14,6 +14,7 @@ use Rattle.rules.specs.Refusals.{divisor-unlawful}
 use Rattle.rules.specs.Records.{imageOf}
 use Rattle.rules.specs.Build.{Build, restructured, with-arena, records, clause-words, clause-total, clause-mark, stateOf, buildOf, unbuilt}
 use Rattle.rules.specs.WellFormed.{not-well-formed}
+use Rattle.rules.specs.Combined.{combined-literals, combined-weights}
 use Rattle.rules.specs.Start.{start-refusal, new-build, StartEnd, start-end, start}
 use Rattle.rules.specs.Precision.{divisor-coarser, set-refusal, with-set, set-end, set-precision}
 use Rattle.rules.specs.Encode.{encode, nothing-asked, nothing-done, divisor-above, encode-refusal, EncodeEnd, encoded, untouched, no-room-end, encoded-end, encode-end, encode-ub-change}
@@ -172,10 +173,10 @@ run-goes xs ws b w m n s (next-lend {n = k} words signed r) =
     record { build = g .build; leads = g .leads; shows = kept-shows k n (g .build) (g .shows) refl words refl signed refl }
 
 -- an accepted start shows its build
-pub start-shows : (xs : List ℤ) (ws : List ℕ) (first : ℕ) (store : List ℕ) (clauses : List ℤ) → start-refusal xs ws first store ≡ 0 → Shows (started xs ws first store clauses) (new-build xs ws first)
+pub start-shows : (lits : List ℤ) (weights : List ℕ) (first : ℕ) (store : List ℕ) (clauses : List ℤ) → start-refusal lits weights first store ≡ 0 → Shows (started lits weights first store clauses) (new-build (combined-literals lits) (combined-weights lits weights) first)
 unfolding started start start-end padded new-build clause-words
-start-shows xs ws first store clauses e =
-    subst (λ (n : ℕ). Shows (at n) (new-build xs ws first)) (sym e) (record {
+start-shows lits weights first store clauses e =
+    subst (λ (n : ℕ). Shows (at n) (new-build (combined-literals lits) (combined-weights lits weights) first)) (sym e) (record {
       state-is = refl;
       no-clauses = refl;
       no-words = refl;
@@ -187,5 +188,5 @@ start-shows xs ws first store clauses e =
   where
     at : ℕ → Memory
     at n =
-        let x : StartEnd = start-end n (new-build xs ws first) store clauses in
+        let x : StartEnd = start-end n (new-build (combined-literals lits) (combined-weights lits weights) first) store clauses in
         record { state = x .answer .state; store = x .store; clauses = x .clauses }

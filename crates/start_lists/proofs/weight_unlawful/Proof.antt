@@ -5,7 +5,6 @@ use native.Mathlib.Omega.{arith}
 use lib.ListN.{length, drop}
 use Rattle.rules.specs.Lists.{all}
 use Rattle.rules.specs.Numbers.{lawful-weight}
-use Rattle.rules.specs.Refusals.{weight-unlawful}
 use Rattle.start_lists.proofs.Walk.{all-on, all-stop, all-end}
 use Rattle.start_lists.proofs.Order.{weight-none, weight-large, weight-right}
 use Rattle.start_lists.proofs.weight_unlawful.Statement.{statement}
@@ -27,7 +26,6 @@ shared-slice-read-if1 : tie.Need-shared-slice-read-if1 Inv-loop μ-loop
 shared-slice-read-if1 c = omega arith
 
 returns : tie.Need-returns Inv-loop μ-loop
-unfolding weight-unlawful
 returns c = all-stop lawful-weight 0 _ _ _ (c .before .before .before .loop .inv .0) (c .before .before .loop-test .taken) (weight-none _ (c .if1 .taken))
 
 mul-if2 : tie.Need-mul-if2 Inv-loop μ-loop
@@ -37,7 +35,6 @@ shared-slice-read-if2 : tie.Need-shared-slice-read-if2 Inv-loop μ-loop
 shared-slice-read-if2 c = omega arith
 
 returns-2 : tie.Need-returns-2 Inv-loop μ-loop
-unfolding weight-unlawful
 returns-2 c = all-stop lawful-weight 0 _ _ _ (c .before .before .before .before .before .loop .inv .0) (c .before .before .before .before .loop-test .taken) (weight-large _ (c .if2 .taken))
 
 add-i : tie.Need-add-i Inv-loop μ-loop
@@ -50,7 +47,6 @@ loop-again : tie.Need-loop-again Inv-loop μ-loop
 loop-again c = (all-on lawful-weight 0 _ _ _ (c .before .before .before .before .before .loop .inv .0) (c .before .before .before .before .loop-test .taken) (weight-right _ (c .before .before .if1 .left) (c .if2 .left)), omega arith)
 
 returns-3 : tie.Need-returns-3 Inv-loop μ-loop
-unfolding weight-unlawful
 returns-3 c = all-end lawful-weight 0 _ _ _ (c .before .loop .inv .0) (c .loop-test .left)
 
 pub weight-unlawful-spec : {M : Type 1} → statement M

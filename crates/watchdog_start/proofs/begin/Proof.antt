@@ -1,8 +1,10 @@
 -- `begin` writes the new build's records over what was there and zeroes the rest.
-use mathlib.Core.Path.{_∙_}
+use mathlib.Core.Path.{ap, sym, _∙_}
 use native.Mathlib.Omega.{arith}
 use borrow.Author.Needs.{needs}
-use Rattle.watchdog_start.proofs.Begun.{all-lawful, all-small, few-lits, few-weights, begun, begun-state}
+use lib.ListN.{length, length-map}
+use Rattle.rules.specs.Records.{literal-word}
+use Rattle.watchdog_start.proofs.Begun.{begun}
 use Rattle.watchdog_start.proofs.begin.Statement.{statement}
 use Rattle.watchdog_start.proofs.begin.Tie as tie
 
@@ -10,20 +12,17 @@ blank-requires : tie.Need-blank-requires
 blank-requires c κs = search needs
 
 leaves-requires : tie.Need-leaves-requires
-leaves-requires c κs =
-    let args = c .before .before .before .before .args in
-    all-lawful (args .lits .now) (args .weights .now) (args .first) (args .store .now) (c .before .before .before .before .pre)
+leaves-requires c κs = search needs
 
 waits-requires : tie.Need-waits-requires
 waits-requires c κs =
-    let args = c .before .before .before .before .before .before .before .before .args in
-    let pre = c .before .before .before .before .before .before .before .before .pre in
-    (all-small (args .lits .now) (args .weights .now) (args .first) (args .store .now) pre, few-weights (args .lits .now) (args .weights .now) (args .first) (args .store .now) pre)
+    let pre = c .before .before .before .before .before .before .before .before .before .pre in
+    (pre .0, pre .1)
 
 mul-zero-words : tie.Need-mul-zero-words
 mul-zero-words c =
-    let args = c .before .before .before .before .before .before .before .before .before .before .before .before .args in
-    omega (arith, few-lits (args .lits .now) (args .weights .now) (args .first) (args .store .now) (c .before .before .before .before .before .before .before .before .before .before .before .before .pre))
+    let pre = c .before .before .before .before .before .before .before .before .before .before .before .before .before .pre in
+    omega (arith, pre .1, pre .2)
 
 zero-words-requires : tie.Need-zero-words-requires
 zero-words-requires c κs = search needs
@@ -33,14 +32,13 @@ zero-signed-requires c κs = search needs
 
 cast-state : tie.Need-cast-state
 cast-state c =
-    let args = c .before .before .before .before .before .before .before .before .before .before .before .before .before .before .before .before .before .before .args in
-    omega (arith, few-lits (args .lits .now) (args .weights .now) (args .first) (args .store .now) (c .before .before .before .before .before .before .before .before .before .before .before .before .before .before .before .before .before .before .pre))
+    let pre = c .before .before .before .before .before .before .before .before .before .before .before .before .before .before .before .before .before .before .before .pre in
+    omega (arith, pre .1, pre .2)
 
 sum-requires : tie.Need-sum-requires
 sum-requires c κs =
-    let args = c .before .before .before .before .before .before .before .before .before .before .before .before .before .before .before .before .before .before .args in
-    let pre = c .before .before .before .before .before .before .before .before .before .before .before .before .before .before .before .before .before .before .pre in
-    (all-small (args .lits .now) (args .weights .now) (args .first) (args .store .now) pre, few-weights (args .lits .now) (args .weights .now) (args .first) (args .store .now) pre)
+    let pre = c .before .before .before .before .before .before .before .before .before .before .before .before .before .before .before .before .before .before .before .pre in
+    (pre .0, pre .1)
 
 mul-state : tie.Need-mul-state
 mul-state c = search needs
@@ -55,15 +53,10 @@ same-length-2 : tie.Need-same-length-2
 same-length-2 c = search needs
 
 returns : tie.Need-returns
-returns c =
-    let args = c .before .before .before .before .before .before .before .before .before .before .before .before .before .before .before .before .before .before .before .before .args in
-    let pre = c .before .before .before .before .before .before .before .before .before .before .before .before .before .before .before .before .before .before .before .before .pre in (
-      c .state .ensures ∙ begun-state (args .lits .now) (args .weights .now) (args .first) (args .store .now) pre _ (c .before .sum .ensures),
-      (
-        c .before .before .before .before .before .before .before .zero-words .ensures ∙ begun (args .lits .now) (args .weights .now) (args .first) (args .store .now) pre _ _ _ _ _ (c .before .before .before .before .before .before .before .before .before .before .before .before .before .before .before .before .blank .ensures) (c .before .before .before .before .before .before .before .before .before .before .before .before .before .before .before .leaves .ensures) (c .before .before .before .before .before .before .before .before .before .before .before .waits .ensures),
-        c .before .before .before .zero-signed .ensures,
-      ),
-    )
+returns c = (
+  λ lits e l. begun _ _ _ _ l _ _ _ _ _ _ _ _ _ (ap length e ∙ length-map lits literal-word) (c .before .sum .ensures) (c .state .ensures) (c .before .before .before .before .before .before .before .before .before .before .before .before .before .before .before .before .blank .ensures) (c .before .before .before .before .before .before .before .before .before .before .before .before .before .before .before .leaves .ensures lits e) (c .before .before .before .before .before .before .before .before .before .before .before .waits .ensures) (c .before .before .before .before .before .before .before .zero-words .ensures),
+  c .before .before .before .zero-signed .ensures,
+)
 
 pub begin-spec : {M : Type 1} → statement M
 begin-spec =
