@@ -161,7 +161,7 @@ class Writer:
         rng = self.rng
         count = rng.choice([2, 2, 3, 3, 3, 4, 4, 5] * 2 + [0, 1])
         if not self.small:
-            count = rng.randint(2, rng.choice([4, 8, 12]))
+            count = rng.randint(rng.choice([1, 2, 2, 2]), rng.choice([2, 4, 8, 12]))
         highest = rng.choice([count, count + 2, 2 * count])
         lits = [sign * variable for variable in range(1, highest + 1) for sign in (1, -1)]
         lits = rng.sample(lits, count)

@@ -608,7 +608,7 @@ def assumptions(state, build, u):
         return 0, []
     if state.inputs == 1:
         [entry] = build.waiting
-        return 0, [] if entry.weight <= u else [-build.records[0].literal]
+        return 0, [] if entry.weight // state.set <= u else [-build.records[0].literal]
     if state.built == 0:
         return 11, []
     if build.largest_weight() >= state.set:
@@ -891,9 +891,28 @@ def twice():
         yield f"{len(lits)} lines of {lits[:2]}, {weights[:2]}", room.refusal, refusal
 
 
+def heavy():
+    """Ask 2: one heavy volume."""
+    for weight, divisor, u, answer in (
+        (5, 8, 1, []),
+        (5, 8, 0, []),
+        (5, 4, 0, [-7]),
+        (5, 4, 1, []),
+        (5, 1, 4, [-7]),
+        (5, 1, 5, []),
+        (1, 2**63, 0, []),
+    ):
+        room = Room([7], [weight], 8)
+        yield f"set {divisor}", room.set(divisor), 0
+        yield f"weight {weight} at {divisor}, u = {u}", room.enforce(u), (0, answer)
+    room = Room([7, 7], [3, 2], 8)
+    yield "two lines of one literal, set 4", room.set(4), 0
+    yield "are one input", (room.enforce(0), room.enforce(1)), ((0, [-7]), (0, []))
+
+
 def self_test():
     passed = failed = 0
-    for case in (p1, p2, p3, p5, p6, p8, p9, most_inputs, twice):
+    for case in (p1, p2, p3, p5, p6, p8, p9, most_inputs, twice, heavy):
         for name, found, expected in case():
             if found == expected:
                 passed += 1

@@ -34,24 +34,27 @@ unfolding literal-word
 word-none n e = omega arith
 
 -- one input
-module _ (b : Build) (u m : ℕ) (is : m ≡ largest (b .queue)) (c : List ℤ) where
-  pub one-empty : m ≤ u → Ended (some (one-answer b u)) c c (record { count = 0; refusal = 0 })
+module _ (b : Build) (u m d : ℕ) (is : m ≡ largest (b .queue)) (at : b .set ≡ d) (c : List ℤ) where
+  divided : largest (b .queue) / b .set ≡ m / d
+  divided = ap₂ _/_ (sym is) at
+
+  pub one-empty : m / d ≤ u → Ended (some (one-answer b u)) c c (record { count = 0; refusal = 0 })
   unfolding one-answer
   one-empty h =
       ended-as c c (record { count = 0; refusal = 0 })
       (ap (λ (t : Bool). some (cond t [] (negℤ (literal-of (nodeAt (b .arena .records) 0 .kind) 0) ∷ [])))
-      (sym (ap (λ (n : ℕ). leb n u) (sym is) ∙ le-leb m u h))) (ended-empty c)
+      (sym (ap (λ (n : ℕ). leb n u) divided ∙ le-leb (m / d) u h))) (ended-empty c)
 
-  pub one-literal : (x : ℤ) (k : Kind) (n w q : ℕ) (d : List ℤ) (r : Answered) → u < m →
+  pub one-literal : (x : ℤ) (k : Kind) (n w q : ℕ) (e : List ℤ) (r : Answered) → u < m / d →
       nodeAt (b .arena .records) 0 .kind ≡ leaf x → nodeAt (b .arena .records) 0 .kind ≡ k → w ≡ literal-word (literal-of k n) →
-      q ≡ literal-word (negℤ (word-literal w)) → Ended (some (word-literal q ∷ [])) c d r → Ended (some (one-answer b u)) c d r
+      q ≡ literal-word (negℤ (word-literal w)) → Ended (some (word-literal q ∷ [])) c e r → Ended (some (one-answer b u)) c e r
   unfolding one-answer literal-of
-  one-literal x k n w q d r h e f g i p =
-      ended-as c d r
-      (ap (λ (z : ℤ). some (z ∷ [])) (negated-literal x w q (g ∙ ap (λ (z : Kind). literal-word (literal-of z n)) (sym f ∙ e)) i ∙
-      ap (λ (z : Kind). negℤ (literal-of z 0)) (sym e)) ∙
+  one-literal x k n w q e r h j f g i p =
+      ended-as c e r
+      (ap (λ (z : ℤ). some (z ∷ [])) (negated-literal x w q (g ∙ ap (λ (z : Kind). literal-word (literal-of z n)) (sym f ∙ j)) i ∙
+      ap (λ (z : Kind). negℤ (literal-of z 0)) (sym j)) ∙
       ap (λ (t : Bool). some (cond t [] (negℤ (literal-of (nodeAt (b .arena .records) 0 .kind) 0) ∷ [])))
-      (sym (ap (λ (n : ℕ). leb n u) (sym is) ∙ lt-leb m u h))) p
+      (sym (ap (λ (n : ℕ). leb n u) divided ∙ lt-leb (m / d) u h))) p
 
 -- a defined output
 output-some : (b : Build) (u k : ℕ) → (k ≡ 0 → ⊥) →

@@ -43,11 +43,16 @@ module _ (s : State) (store : List ℕ) (h : Readable s store) where
       (All-second (λ n. n < s .fresh) (map (λ (o : Output). o .number) (outputs (buildOf s store .arena .records))) (take (s .«tares_used») (s .tares))
       (h .formed .taken .below-fresh))
 
+  pub set-positive : 1 ≤ s .set
+  unfolding buildOf build-over
+  set-positive =
+      let p : s .set ≡ 2 ^ top-bit (s .set) = h .formed .set-power in
+      omega (arith, suc-ones (top-bit (s .set)))
+
   pub quotient : (s .built ≡ 0 → ⊥) → 1 ≤ s .built / s .set
   unfolding buildOf build-over
   quotient e =
-      let p : s .set ≡ 2 ^ top-bit (s .set) = h .formed .set-power in
-      let o : 0 < s .set = omega (arith, suc-ones (top-bit (s .set))) in
+      let o : 0 < s .set = set-positive in
       let k : s .set ≤ s .built = h .formed .if-built e .coarser in
       le-div-iff-mul-le {k = s .set} {x = 1} {y = s .built} o .1 (omega arith)
 
@@ -78,12 +83,12 @@ module _ (s : State) (store : List ℕ) (h : Readable s store) where
         ask-none z = enforce-none (buildOf s store) u c t within e z
 
         pub ask-one : (d : List ℤ) (r : Answered) → s .inputs ≡ 1 →
-            ((b : Build) (x : ℤ) → Stored b store (s .records) → nodeAt (b .arena .records) 0 .kind ≡ leaf x → Ended (some (one-answer b u)) c d r) →
+            ((b : Build) (x : ℤ) → Stored b store (s .records) → b .set ≡ s .set → nodeAt (b .arena .records) 0 .kind ≡ leaf x → Ended (some (one-answer b u)) c d r) →
             Ended (enforce (buildOf s store) u) c d r
         unfolding buildOf build-over
         ask-one d r z p =
             let (x, k) = h .formed .inputs-first 0 (omega arith) in
-            enforce-one (buildOf s store) u c t within e d r z (p (buildOf s store) x has k)
+            enforce-one (buildOf s store) u c t within e d r z (p (buildOf s store) x has refl k)
 
         pub ask-more : (d : List ℤ) (r : Answered) → (s .inputs ≡ 0 → ⊥) → (s .inputs ≡ 1 → ⊥) → Ended (built-answer (buildOf s store) u) c d r →
             Ended (enforce (buildOf s store) u) c d r

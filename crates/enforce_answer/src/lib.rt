@@ -115,12 +115,13 @@ fn root(buckets: [u32; rules::MOST_BUCKETS], used: u32) -> u32
     buckets[0]
 }
 
-// The answer of one input. Linear in the records.
-fn one_answer(store: &[u32], records: usize, scratch: &mut [i32], u: u64) -> Answered
-    ensures { λ r. ⌜ ((b : Build) (x : ℤ) → Stored b (now (store .entry)) records → nodeAt (b .arena .records) 0 .kind ≡ leaf x →
+// The answer of one input at the set divisor. Linear in the records.
+fn one_answer(store: &[u32], records: usize, set: u64, scratch: &mut [i32], u: u64) -> Answered
+    requires { ⌜ 1 ≤ set ⌝ }
+    ensures { λ r. ⌜ ((b : Build) (x : ℤ) → Stored b (now (store .entry)) records → b .set ≡ set → nodeAt (b .arena .records) 0 .kind ≡ leaf x →
         Ended (some (one-answer b u)) (now (scratch .entry)) (now (scratch .exit)) r) ⌝ }
 {
-    if records_waiting::largest(store, records) as u64 <= u {
+    if records_waiting::largest(store, records) as u64 / set <= u {
         return Answered {
             count: 0,
             refusal: 0,
@@ -228,7 +229,7 @@ pub fn answer(s: rules::State, store: &[u32], scratch: &mut [i32], u: u64) -> An
         };
     }
     if s.inputs == 1 {
-        return one_answer(store, s.records, scratch, u);
+        return one_answer(store, s.records, s.set, scratch, u);
     }
     built_answer(s, store, scratch, u)
 }

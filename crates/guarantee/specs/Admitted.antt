@@ -15,7 +15,7 @@ use Rattle.rules.specs.Start.{start-refusal, new-build}
 use Rattle.rules.specs.Enforce.{enforce, enforce-ub}
 use Rattle.preserve.specs.Starts.{lent}
 use Rattle.guarantee.specs.Meaning.Truth.{Assign, holds}
-use Rattle.guarantee.specs.Promise.{sum-of, Admits, Promised}
+use Rattle.guarantee.specs.Promise.{sum-of, Admits, Refined, Promised}
 use Rattle.guarantee.specs.Histories.Worlds.{World}
 use Rattle.guarantee.specs.Histories.Reached.{started-world, leads-world}
 use Rattle.guarantee.specs.Demand3.{promised, promised-empty}
@@ -32,7 +32,7 @@ Promises xs ws m u [] = sum-of xs ws (m .state .set) (λ x. true) ≤ u
 Promises xs ws m u (l ∷ ls) = (n : Memory) → Run m n → Promised xs ws (m .state .set) (m .state .built) u (l ∷ ls) (n .state .built) (clauses-in n)
 
 -- Demand 3 is the case d = D
-as-demand3 : (xs : List ℤ) (ws : List ℕ) (d D u : ℕ) (answer : List ℤ) (D′ : ℕ) (clauses : List (List ℤ)) → Promised xs ws d D u answer D′ clauses → d ≡ D → (α : Assign) →
+as-demand3 : (xs : List ℤ) (ws : List ℕ) (d D u : ℕ) (answer : List ℤ) (D′ : ℕ) (clauses : List (List ℤ)) → Refined xs ws d D u answer D′ clauses → d ≡ D → (α : Assign) →
     Admits xs clauses answer α ↔ (sum-of xs ws D′ (holds α) ≤ D / D′ * suc u - 1)
 as-demand3 xs ws d D u answer D′ clauses p same α =
     subst (λ (q : ℕ). Admits xs clauses answer α ↔ (sum-of xs ws D′ (holds α) ≤ D / D′ * suc q - 1)) (ap (λ (k : ℕ). u * k / D) same ∙ mul-div-cancel u (p .is-built)) (p .admits α)
@@ -41,7 +41,7 @@ state-divisors : (m : Memory) (b : Build) → Shows m b → (m .state .set ≡ b
 unfolding stateOf
 state-divisors m b s = (ap (λ (st : State). st .set) (s .state-is), ap (λ (st : State). st .built) (s .state-is))
 
-module _ (lits : List ℤ) (weights : List ℕ) (first : ℕ) (store : List ℕ) (clauses : List ℤ) (accepted-start : start-refusal lits weights first store ≡ 0) (two : 2 ≤ length (combined-literals lits))
+module _ (lits : List ℤ) (weights : List ℕ) (first : ℕ) (store : List ℕ) (clauses : List ℤ) (accepted-start : start-refusal lits weights first store ≡ 0)
     (m : Memory) (run : Run (started lits weights first store clauses) m) where
   -- the inputs: the combined list
   abbrev pub xs : List ℤ
@@ -67,7 +67,7 @@ module _ (lits : List ℤ) (weights : List ℕ) (first : ℕ) (store : List ℕ)
   promise : (u : ℕ) (answer : List ℤ) → enforce b u ≡ some answer → Promises xs ws m u answer
   unfolding b
   promise u [] e =
-      subst (λ (d : ℕ). sum-of xs ws d (λ x. true) ≤ u) (sym (state-divisors m b (reached .shows) .0)) (promised-empty lits weights first store accepted-start two b (reached .leads) u e)
+      subst (λ (d : ℕ). sum-of xs ws d (λ x. true) ≤ u) (sym (state-divisors m b (reached .shows) .0)) (promised-empty lits weights first store accepted-start b (reached .leads) u e)
   promise u (l ∷ ls) e = λ n later.
       let g : Goes b n = run-goes xs ws b w m n (reached .shows) later in
       let w′ : World xs ws (g .build) = leads-world xs ws b (g .build) w (g .leads) in
@@ -77,9 +77,9 @@ module _ (lits : List ℤ) (weights : List ℕ) (first : ℕ) (store : List ℕ)
       (subst (λ (d : ℕ). Promised xs ws d (m .state .built) u (l ∷ ls) (n .state .built) (g .build .arena .clauses)) (sym ms)
       (subst (λ (d : ℕ). Promised xs ws (b .set) d u (l ∷ ls) (n .state .built) (g .build .arena .clauses)) (sym mb)
       (subst (λ (d : ℕ). Promised xs ws (b .set) (b .built) u (l ∷ ls) d (g .build .arena .clauses)) (sym nb)
-      (promised lits weights first store accepted-start two b (reached .leads) u l ls e (g .build) (g .leads)))))
+      (promised lits weights first store accepted-start b (reached .leads) u l ls e (g .build) (g .leads)))))
 
-  -- What an answer admits: two or more inputs, any calls after an accepted start, and a bound u that enforce does not refuse
+  -- What an answer admits: any calls after an accepted start, and a bound u that enforce does not refuse
   pub answer-promise : (scratch : List ℤ) (u : ℕ) → enforce-ub (m .state) (m .store) (m .clauses) scratch u .refusal ≡ 0 →
       Promises xs ws m u (enforce-ub (m .state) (m .store) (m .clauses) scratch u .answer)
   unfolding b
@@ -89,15 +89,24 @@ module _ (lits : List ℤ) (weights : List ℕ) (first : ℕ) (store : List ℕ)
   some-promise : (scratch : List ℤ) (u : ℕ) (l : ℤ) (ls : List ℤ) → enforce-ub (m .state) (m .store) (m .clauses) scratch u .answer ≡ l ∷ ls → Promises xs ws m u (l ∷ ls)
   some-promise scratch u l ls e = subst (Promises xs ws m u) e (answer-promise scratch u (answer-accepted m scratch u l ls e))
 
-  -- Demand 3: a non-empty answer for u given while the set divisor equals the built divisor D admits, with the clauses that stand in the buffer
-  -- after any later calls that leave built divisor d, exactly the loads whose sum at d is at most (D/d)(u + 1) - 1
-  pub demand3-words : (scratch : List ℤ) (u : ℕ) (l : ℤ) (ls : List ℤ) → enforce-ub (m .state) (m .store) (m .clauses) scratch u .answer ≡ l ∷ ls → m .state .set ≡ m .state .built →
-      (n : Memory) → Run m n → (α : Assign) → Admits xs (clauses-in n) (l ∷ ls) α ↔ (sum-of xs ws (n .state .built) (holds α) ≤ m .state .built / n .state .built * suc u - 1)
-  demand3-words scratch u l ls e same n later =
-      as-demand3 xs ws (m .state .set) (m .state .built) u (l ∷ ls) (n .state .built) (clauses-in n) (some-promise scratch u l ls e n later) same
+  -- Demand 3: a non-empty answer for u, of two or more inputs, given while the set divisor equals the built divisor D admits, with the clauses that
+  -- stand in the buffer after any later calls that leave built divisor d, exactly the loads whose sum at d is at most (D/d)(u + 1) - 1
+  pub demand3-words : 2 ≤ length xs → (scratch : List ℤ) (u : ℕ) (l : ℤ) (ls : List ℤ) → enforce-ub (m .state) (m .store) (m .clauses) scratch u .answer ≡ l ∷ ls →
+      m .state .set ≡ m .state .built → (n : Memory) → Run m n → (α : Assign) →
+      Admits xs (clauses-in n) (l ∷ ls) α ↔ (sum-of xs ws (n .state .built) (holds α) ≤ m .state .built / n .state .built * suc u - 1)
+  demand3-words two scratch u l ls e same n later =
+      as-demand3 xs ws (m .state .set) (m .state .built) u (l ∷ ls) (n .state .built) (clauses-in n) (some-promise scratch u l ls e n later .two-inputs two) same
 
   -- with no refinement in between, exactly the loads whose sum at D is at most u
   pub demand3-exactly : (scratch : List ℤ) (u : ℕ) (l : ℤ) (ls : List ℤ) → enforce-ub (m .state) (m .store) (m .clauses) scratch u .answer ≡ l ∷ ls → m .state .set ≡ m .state .built →
       (n : Memory) → Run m n → n .state .built ≡ m .state .built → (α : Assign) → Admits xs (clauses-in n) (l ∷ ls) α ↔ (sum-of xs ws (m .state .built) (holds α) ≤ u)
   demand3-exactly scratch u l ls e same n later kept α =
       subst (λ (d : ℕ). Admits xs (clauses-in n) (l ∷ ls) α ↔ (sum-of xs ws d (holds α) ≤ u)) same (some-promise scratch u l ls e n later .unrefined kept α)
+
+  -- Ask 2: a non-empty answer for u, of one input, admits after any later calls exactly the loads whose weight, divided by the divisor set when it
+  -- was answered and rounded down, is at most u
+  pub demand3-one : length xs ≡ 1 → (scratch : List ℤ) (u : ℕ) (l : ℤ) (ls : List ℤ) → enforce-ub (m .state) (m .store) (m .clauses) scratch u .answer ≡ l ∷ ls →
+      (n : Memory) → Run m n → (α : Assign) → Admits xs (clauses-in n) (l ∷ ls) α ↔ (sum-of xs ws (m .state .set) (holds α) ≤ u)
+  demand3-one one scratch u l ls e n later =
+      let p : Promised xs ws (m .state .set) (m .state .built) u (l ∷ ls) (n .state .built) (clauses-in n) = some-promise scratch u l ls e n later in
+      p .unrefined (p .one-input one)

@@ -11,7 +11,7 @@ use lib.Dec.{eqb, leb}
 use lib.ListN.{length, getD, drop, length-append}
 use lib.IntN.{ℤ, pos, negℤ, natAbs}
 use lib.Pow.{pow-pos, pow-add}
-use borrow.Author.Tests.{eqb-false, ne-eqb, leb-false}
+use borrow.Author.Tests.{eqb-false, eq-eqb, ne-eqb, leb-false}
 use Rattle.rules.specs.Lists.{rising}
 use Rattle.rules.specs.Records.{Kind, Output, Record, nodeAt, outputs}
 use Rattle.rules.specs.Totalizer.{number-in, number-of}
@@ -107,8 +107,17 @@ nothing-some l ls e = let z : _≡_ {A = List ℤ} [] (l ∷ ls) = cc in let y :
 pub none-some : (ls : List ℤ) → _≡_ {A = Option (List ℤ)} none (some ls) → ⊥
 none-some ls e = let y : _≡_ {A = ℕ} 0 1 = cc in omega arith
 
-same-some : (ks ls : List ℤ) → _≡_ {A = Option (List ℤ)} (some ks) (some ls) → ks ≡ ls
+pub same-some : (ks ls : List ℤ) → _≡_ {A = Option (List ℤ)} (some ks) (some ls) → ks ≡ ls
 same-some ks ls e = cc
+
+-- the answer of no inputs
+pub none-enforce : (b : Build) (u : ℕ) → b .inputs ≡ 0 → enforce b u ≡ some []
+unfolding enforce
+none-enforce b u e = rw (eq-eqb (b .inputs) 0 e) (go (leb (b .sum) u && eqb (b .set) 1))
+  where
+    go : (t : Bool) → _≡_ {A = Option (List ℤ)} (cond t (some []) (some [])) (some [])
+    go true = refl
+    go false = refl
 
 -- the answer of two or more inputs
 pub two-enforce : (b : Build) (u : ℕ) → 2 ≤ b .inputs → enforce b u ≡ cond (leb (b .sum) u && eqb (b .set) 1) (some []) (built-answer b u)

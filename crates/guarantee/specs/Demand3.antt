@@ -7,11 +7,11 @@ use mathlib.Core.List.{List, [], _∷_}
 use Prim.Native.Nat.{ℕ, zero, suc, _+_, _*_, _-_, _/_, _%_, _^_, _≤_, _<_}
 use native.Mathlib.Omega.{arith}
 use native.Mathlib.Nat.{zero-div, zero-mul, one-mul, mul-one, mul-comm, suc-mul, div-add-mod', mod-lt, div-mul-le-self, div-one, mul-div-cancel, mul-pos, mul-le-mul-left, mul-suc, div-div-eq-div-mul}
-use lib.Dec.{eqb, leb}
+use lib.Dec.{eqb, leb, ltb}
 use lib.ListN.{length}
 use lib.IntN.{ℤ, pos, negℤ}
 use lib.Pow.{pow-pos, pow-add}
-use borrow.Author.Tests.{eqb-true, eqb-false, leb-true, leb-false}
+use borrow.Author.Tests.{eqb-true, eqb-false, leb-true, leb-false, ltb-true, ltb-false}
 use Rattle.rules.specs.Lists.{total}
 use Rattle.rules.specs.Digits.{top-bit}
 use Rattle.rules.specs.Records.{nodeAt}
@@ -25,16 +25,17 @@ use Rattle.laws.specs.Records.Places.{place}
 use Rattle.laws.specs.Numbers.Powers.{top-bit-least}
 use Rattle.laws.specs.Queue.Runs.{largest-all}
 use Rattle.laws.specs.WellFormed.Plain.{Formed}
-use Rattle.preserve.specs.Starts.{lent}
+use Rattle.preserve.specs.Starts.{Lent, lent}
 use Rattle.guarantee.specs.Meaning.Truth.{Assign, Truths, holds}
 use Rattle.guarantee.specs.Meaning.Values.{value, value-all}
 use Rattle.guarantee.specs.Counting.Chains.{tare-sum, tare-all}
 use Rattle.guarantee.specs.Counting.Queues.{waited, waited-none}
-use Rattle.guarantee.specs.Promise.{sum-of, Admits, Promised}
+use Rattle.guarantee.specs.Promise.{sum-of, Admits, Refined, Promised}
 use Rattle.guarantee.specs.Answers.{Counting, bound-law}
 use Rattle.guarantee.specs.Histories.Worlds.{Leads, World, Follows}
 use Rattle.guarantee.specs.Histories.Reached.{started-world, leads-world, leads-follows}
-use Rattle.guarantee.specs.Answered.{counting, asked, Enforced, enforced, nothing-some, none-some, two-enforce, later-admits}
+use Rattle.guarantee.specs.Answered.{counting, asked, Enforced, enforced, nothing-some, none-some, none-enforce, two-enforce, later-admits}
+use Rattle.guarantee.specs.Single.{Alone, alone}
 
 self-div : (k : ℕ) → k ≢ 0 → k / k ≡ 1
 self-div zero h = absurd (h refl)
@@ -98,7 +99,7 @@ settled-sum xs ws b w n low t =
       subst (λ (k : ℕ). 1 ≤ k) (sym is) (pow-pos j),
     )
 
-module _ (lits : List ℤ) (weights : List ℕ) (first : ℕ) (store : List ℕ) (accepted : start-refusal lits weights first store ≡ 0) (two : 2 ≤ length (combined-literals lits)) (b : Build)
+module _ (lits : List ℤ) (weights : List ℕ) (first : ℕ) (store : List ℕ) (accepted : start-refusal lits weights first store ≡ 0) (b : Build)
     (reached : Leads (new-build (combined-literals lits) (combined-weights lits weights) first) b) where
   -- the inputs: the combined list
   abbrev pub xs : List ℤ
@@ -107,11 +108,14 @@ module _ (lits : List ℤ) (weights : List ℕ) (first : ℕ) (store : List ℕ)
   abbrev pub ws : List ℕ
   ws = combined-weights lits weights
 
-  world : World xs ws b
-  world = leads-world xs ws (new-build xs ws first) b (started-world xs ws first store (lent lits weights first store accepted)) reached
+  given : Lent xs ws first store
+  given = lent lits weights first store accepted
 
-  inputs-two : 2 ≤ b .inputs
-  inputs-two = omega (arith, world .inputs-are)
+  world : World xs ws b
+  world = leads-world xs ws (new-build xs ws first) b (started-world xs ws first store given) reached
+
+  inputs-two : 2 ≤ length xs → 2 ≤ b .inputs
+  inputs-two two = omega (arith, world .inputs-are)
 
   -- a later built divisor goes into the earlier one
   later-divides : (c : Build) → Leads b c → b .built / c .built * c .built ≡ b .built
@@ -127,10 +131,10 @@ module _ (lits : List ℤ) (weights : List ℕ) (first : ℕ) (store : List ℕ)
 
   -- Ask 13 of the change requests, its second sentence: an answer for u, asked as q = u divided by built over set divisor, admits in any later
   -- world at divisor d' the loads whose sum at d' is at most (D/d')(q + 1) - 1
-  answer-later : (u : ℕ) (l : ℤ) (ls : List ℤ) → enforce b u ≡ some (l ∷ ls) → (c : Build) → Leads b c → (α : Assign) →
+  answer-later : 2 ≤ length xs → (u : ℕ) (l : ℤ) (ls : List ℤ) → enforce b u ≡ some (l ∷ ls) → (c : Build) → Leads b c → (α : Assign) →
       Admits xs (c .arena .clauses) (l ∷ ls) α ↔ (sum-of xs ws (c .built) (holds α) ≤ b .built / c .built * suc (asked b u) - 1)
-  answer-later u l ls e c later α =
-      let en : Enforced b u (l ∷ ls) = enforced b u l ls inputs-two e in
+  answer-later two u l ls e c later α =
+      let en : Enforced b u (l ∷ ls) = enforced b u l ls (inputs-two two) e in
       let f : Follows b c = leads-follows xs ws b c world (en .is-built) later in
       let main = later-admits xs ws b c world (leads-world xs ws b c world later) f (asked b u) (l ∷ ls) (en .answered) α in
       let same : b .built / c .built * suc (asked b u) ≡ 2 ^ length (f .front) * suc (asked b u) = ap (λ (k : ℕ). k * suc (asked b u)) (scale-is b c f) in
@@ -139,15 +143,15 @@ module _ (lits : List ℤ) (weights : List ℕ) (first : ℕ) (store : List ℕ)
 
   -- Ask 13, its first sentence: a finer question to a coarser build. The answer admits exactly the loads whose weights, divided by the set
   -- divisor and rounded down, sum to at most u; so it does in any later world, until a refinement
-  finer-question : (u : ℕ) (l : ℤ) (ls : List ℤ) → enforce b u ≡ some (l ∷ ls) → (c : Build) → Leads b c → c .built ≡ b .built → (α : Assign) →
+  finer-question : 2 ≤ length xs → (u : ℕ) (l : ℤ) (ls : List ℤ) → enforce b u ≡ some (l ∷ ls) → (c : Build) → Leads b c → c .built ≡ b .built → (α : Assign) →
       Admits xs (c .arena .clauses) (l ∷ ls) α ↔ (sum-of xs ws (b .set) (holds α) ≤ u)
-  finer-question u l ls e c later same α =
-      let en : Enforced b u (l ∷ ls) = enforced b u l ls inputs-two e in
+  finer-question two u l ls e c later same α =
+      let en : Enforced b u (l ∷ ls) = enforced b u l ls (inputs-two two) e in
       let k : ℕ = b .built / b .set in
       let s : ℕ = sum-of xs ws (b .built) (holds α) in
       let main : Admits xs (c .arena .clauses) (l ∷ ls) α ↔ (s ≤ b .built / b .built * suc (u / k) - 1) =
       subst (λ (d : ℕ). Admits xs (c .arena .clauses) (l ∷ ls) α ↔ (sum-of xs ws d (holds α) ≤ b .built / d * suc (u / k) - 1)) same
-      (answer-later u l ls e c later α) in
+      (answer-later two u l ls e c later α) in
       let (is, positive) = settled-sum xs ws b world (en .is-built) (en .settled) (holds α) in
       let one : b .built / b .built * suc (u / k) - 1 ≡ u / k = ap (λ (m : ℕ). m * suc (u / k) - 1) (self-div (b .built) (en .is-built)) ∙ omega (arith, one-mul (suc (u / k))) in
       let law : (s ≤ u / k) ↔ (k * s ≤ u) = bound-div u k s positive in
@@ -163,27 +167,41 @@ module _ (lits : List ℤ) (weights : List ℕ) (first : ℕ) (store : List ℕ)
               let more : k * suc (u / k) ≤ k * s = mul-le-mul-left k up in
               absurd (omega (arith, more, mul-suc k (u / k), mul-comm k (u / k), div-add-mod' u k, mod-lt u h))
 
-  -- a non-empty answer for u, in any later world
-  pub promised : (u : ℕ) (l : ℤ) (ls : List ℤ) → enforce b u ≡ some (l ∷ ls) → (c : Build) → Leads b c →
-      Promised xs ws (b .set) (b .built) u (l ∷ ls) (c .built) (c .arena .clauses)
-  promised u l ls e c later =
-      let n : b .built ≢ 0 = enforced b u l ls inputs-two e .is-built in
+  -- two or more inputs and a non-empty answer, in any later world
+  refined : 2 ≤ length xs → (u : ℕ) (l : ℤ) (ls : List ℤ) → enforce b u ≡ some (l ∷ ls) → (c : Build) → Leads b c →
+      Refined xs ws (b .set) (b .built) u (l ∷ ls) (c .built) (c .arena .clauses)
+  refined two u l ls e c later =
+      let n : b .built ≢ 0 = enforced b u l ls (inputs-two two) e .is-built in
       record {
         is-built = not-zero (b .built) n;
         divides = later-divides c later;
         admits = λ α.
             subst (λ (q : ℕ). Admits xs (c .arena .clauses) (l ∷ ls) α ↔ (sum-of xs ws (c .built) (holds α) ≤ b .built / c .built * suc q - 1)) (asked-is xs ws b world n u)
-            (answer-later u l ls e c later α);
-        unrefined = finer-question u l ls e c later;
+            (answer-later two u l ls e c later α);
       }
 
-  -- Demand 3, an empty answer comes only if all inputs together, divided by the set divisor, stay within u
-  pub promised-empty : (u : ℕ) → enforce b u ≡ some [] → sum-of xs ws (b .set) (λ x. true) ≤ u
+  -- a non-empty answer for u, in any later world
+  pub promised : (u : ℕ) (l : ℤ) (ls : List ℤ) → enforce b u ≡ some (l ∷ ls) → (c : Build) → Leads b c →
+      Promised xs ws (b .set) (b .built) u (l ∷ ls) (c .built) (c .arena .clauses)
+  promised u l ls e c later = go (ltb 1 (length xs)) refl (ltb 0 (length xs)) refl
+    where
+      go : (t : Bool) → ltb 1 (length xs) ≡ t → (v : Bool) → ltb 0 (length xs) ≡ v → Promised xs ws (b .set) (b .built) u (l ∷ ls) (c .built) (c .arena .clauses)
+      go true q v r =
+          let two : 2 ≤ length xs = ltb-true 1 (length xs) q in
+          record { unrefined = finer-question two u l ls e c later; one-input = λ one. absurd (omega arith); two-inputs = λ h. refined two u l ls e c later }
+      go false q true r =
+          let low : length xs ≤ 1 = ltb-false 1 (length xs) q in
+          let a : Alone xs ws b = alone xs ws first store given (omega (arith, ltb-true 0 (length xs) r)) b reached in
+          record { unrefined = λ same. a .admits u l ls e c later; one-input = λ one. a .kept c later; two-inputs = λ h. absurd (omega arith) }
+      go false q false r = absurd (nothing-some l ls (sym (none-enforce b u (omega (arith, world .inputs-are, ltb-false 0 (length xs) r))) ∙ e))
+
+  -- two or more inputs and an empty answer
+  empty-two : 2 ≤ length xs → (u : ℕ) → enforce b u ≡ some [] → sum-of xs ws (b .set) (λ x. true) ≤ u
   unfolding built-answer root-answer output-answer unbuilt output-weight root-node
-  promised-empty u e = first-test (leb (b .sum) u) refl (eqb (b .set) 1) refl (sym (two-enforce b u inputs-two) ∙ e)
+  empty-two two u e = first-test (leb (b .sum) u) refl (eqb (b .set) 1) refl (sym (two-enforce b u (inputs-two two)) ∙ e)
     where
       lengths : length xs ≡ length ws
-      lengths = lent lits weights first store accepted .lengths
+      lengths = given .lengths
 
       q : ℕ
       q = asked b u
@@ -225,3 +243,16 @@ module _ (lits : List ℤ) (weights : List ℕ) (first : ℕ) (store : List ℕ)
           omega (arith, leb-true (b .sum) u h, world .sum-is)
       first-test true h false y k = built (eqb (b .built) 0) refl (leb (b .set) (largest (b .queue))) refl k
       first-test false h d y k = built (eqb (b .built) 0) refl (leb (b .set) (largest (b .queue))) refl k
+
+  -- Demand 3, an empty answer, of any number of inputs, comes only if all inputs together, divided by the set divisor, stay within u
+  pub promised-empty : (u : ℕ) → enforce b u ≡ some [] → sum-of xs ws (b .set) (λ x. true) ≤ u
+  promised-empty u e = go (ltb 1 (length xs)) refl (ltb 0 (length xs)) refl
+    where
+      nothing : (ys : List ℤ) (vs : List ℕ) → length ys ≡ 0 → sum-of ys vs (b .set) (λ x. true) ≤ u
+      nothing [] vs h = omega arith
+      nothing (y ∷ ys) vs h = absurd (omega arith)
+
+      go : (t : Bool) → ltb 1 (length xs) ≡ t → (v : Bool) → ltb 0 (length xs) ≡ v → sum-of xs ws (b .set) (λ x. true) ≤ u
+      go true q v r = empty-two (ltb-true 1 (length xs) q) u e
+      go false q true r = alone xs ws first store given (omega (arith, ltb-false 1 (length xs) q, ltb-true 0 (length xs) r)) b reached .empty u e
+      go false q false r = nothing xs ws (omega (arith, ltb-false 0 (length xs) r))

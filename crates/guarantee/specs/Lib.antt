@@ -1,5 +1,5 @@
 -- What a bound's answer admits. In the order in which it is read: what clauses mean, what the tree counts, what a refinement keeps, what calls
--- lead to; what an answer promises, and the proof of it over builds; what lines of one literal weigh together; where each input stands and what it
+-- lead to; what an answer promises, and the proof of it over builds, of one input and of more; what lines of one literal weigh together; where each input stands and what it
 -- weighs; calls over lent words, the promise over them, the totals that are reported, and instances.
 pub mod Meaning
 pub mod Counting
@@ -8,6 +8,7 @@ pub mod Histories
 pub mod Promise
 pub mod Answers
 pub mod Answered
+pub mod Single
 pub mod Demand3
 pub mod Lines
 pub mod Standing

@@ -1,6 +1,6 @@
 -- Cases of document 02's asks, computed over the public calls: what each changed, and what it left.
 use mathlib.Core.Path.{_≡_, refl}
-use mathlib.Core.List.{List, [], _∷_, map}
+use mathlib.Core.List.{List, [], _∷_, _++_, map}
 use Prim.Native.Nat.{ℕ, _+_, _*_}
 use lib.ListN.{length, replicate}
 use lib.IntN.{ℤ, pos}
@@ -70,3 +70,18 @@ start-combined = refl
 divided-combined : enforced (encoded (set-to (started (pos 1 ∷ pos 1 ∷ pos 2 ∷ []) (1 ∷ 1 ∷ 2 ∷ []) 3 80 20) 2) 0 1) 0 ≡ (0, neg 3 ∷ [])
 unfolding enforced encoded set-to started neg
 divided-combined = refl
+
+-- Ask 2: one input of weight 5 and literal 7 at a divisor
+one-at : ℕ → ℕ → ℕ × List ℤ
+unfolding enforced set-to started
+one-at divisor u = enforced (set-to (started (pos 7 ∷ []) (5 ∷ []) 8 16 0) divisor) u
+
+-- divisor 8: u = 1 and 0 are empty; divisor 4: u = 0 is the negation and u = 1 empty; divisor 1 as it was; two lines of one literal are one input
+heavy : map (one-at 8) (1 ∷ 0 ∷ []) ++ (map (one-at 4) (0 ∷ 1 ∷ []) ++ map (one-at 1) (4 ∷ 5 ∷ [])) ≡
+    (0, []) ∷ (0, []) ∷ (0, neg 7 ∷ []) ∷ (0, []) ∷ (0, neg 7 ∷ []) ∷ (0, []) ∷ []
+unfolding one-at neg
+heavy = refl
+
+heavy-lines : map (enforced (set-to (started (pos 7 ∷ pos 7 ∷ []) (3 ∷ 2 ∷ []) 8 16 0) 4)) (0 ∷ 1 ∷ []) ≡ (0, neg 7 ∷ []) ∷ (0, []) ∷ []
+unfolding enforced set-to started neg
+heavy-lines = refl

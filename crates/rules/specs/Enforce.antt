@@ -36,10 +36,10 @@ unfoldable pub built-answer : Build → ℕ → Option (List ℤ)
 unfolding unbuilt largest root-answer
 built-answer b u = cond (unbuilt b) none (cond (leb (b .set) (largest (b .queue))) none (root-answer b (u / (b .built / b .set))))
 
--- one input: empty if its weight, the only one that waits, is at most u, else its negation
+-- one input, by Ask 2: empty exactly if its weight, the only one that waits, divided by the set divisor, rounded down, is at most u, else its negation
 unfoldable pub one-answer : Build → ℕ → List ℤ
 unfolding largest literal-of nodeAt
-one-answer b u = cond (leb (largest (b .queue)) u) [] (negℤ (literal-of (nodeAt (b .arena .records) 0 .kind) 0) ∷ [])
+one-answer b u = cond (leb (largest (b .queue) / b .set) u) [] (negℤ (literal-of (nodeAt (b .arena .records) 0 .kind) 0) ∷ [])
 
 -- weight sum at most u and set divisor 1: empty; no inputs: empty; one input; else by the build
 unfoldable pub enforce : Build → ℕ → Option (List ℤ)

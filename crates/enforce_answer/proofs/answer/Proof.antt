@@ -1,5 +1,5 @@
 -- `answer` takes the tests of enforce in their order.
-use Rattle.enforce_answer.proofs.Held.{ask-within, ask-none, ask-one, ask-more}
+use Rattle.enforce_answer.proofs.Held.{ask-within, ask-none, ask-one, ask-more, set-positive}
 use borrow.Author.Needs.{needs}
 use Rattle.enforce_answer.proofs.answer.Statement.{statement}
 use Rattle.enforce_answer.proofs.answer.Tie as tie
@@ -14,7 +14,7 @@ returns-2 : tie.Need-returns-2
 returns-2 c = ask-none _ _ (c .before .before .before .before .before .pre) _ _ _ (c .before .before .before .all-within .ensures) (c .before .before .if1 .left) (c .if2 .taken)
 
 one-answer-requires : tie.Need-one-answer-requires
-one-answer-requires c κs = search needs
+one-answer-requires c κs = set-positive _ _ (c .before .before .before .before .before .before .before .before .pre)
 
 same-length : tie.Need-same-length
 same-length c = search needs
