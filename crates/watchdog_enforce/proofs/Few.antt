@@ -56,7 +56,7 @@ module _ (b : Build) (few : length (b .tares) ≤ 19) where
 
   one-few : (u : ℕ) → length (one-answer b u) ≤ 20
   unfolding one-answer
-  one-few u = go (leb (largest (b .queue)) u) (negℤ (literal-of (nodeAt (b .arena .records) 0 .kind) 0))
+  one-few u = go (leb (largest (b .queue) / b .set) u) (negℤ (literal-of (nodeAt (b .arena .records) 0 .kind) 0))
     where
       go : (t : Bool) (x : ℤ) → length (cond t [] (x ∷ [])) ≤ 20
       go true x = omega arith
