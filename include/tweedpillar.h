@@ -30,7 +30,7 @@ enum {
     TWEEDPILLAR_NO_ROOM = 7,           /* store, clause buffer, numbers or scratch do not suffice */
     TWEEDPILLAR_DIVISOR = 8,           /* the divisor is neither 0 nor a power of two */
     TWEEDPILLAR_DIVISOR_COARSER = 9,   /* built already, and the divisor is above the one that was set */
-    TWEEDPILLAR_DIVISOR_ABOVE = 10,    /* first build with a divisor above every weight */
+    TWEEDPILLAR_DIVISOR_ABOVE = 10,    /* first build with a divisor above every weight; only after a divisor was set */
     TWEEDPILLAR_NOT_ENCODED = 11,      /* the answer to this bound is not encoded */
     TWEEDPILLAR_NOT_WELL_FORMED = 12   /* state and store are not well formed: not what the calls left */
 };
@@ -78,7 +78,9 @@ typedef struct {
     uint64_t value;
 } tweedpillar_value;
 
-/* A new build at divisor 1 over these lines, a literal and its weight each; fresh variables are numbered from `first` on.
+/* A new build over these lines, a literal and its weight each; fresh variables are numbered from `first` on. Its divisor is
+ * the top power of two of the largest weight, 1 where there are no inputs: for bounds in single units set 1 before the first
+ * encode or enforce.
  * Lines that name one literal are combined: it is one input, at the place of its first line, with their weights added up;
  * x and -x are two. Refuses 1, 2, 4, 5, then 7 where the store has fewer than 16 words an input.
  * Accepted: the store holds a record of each input and one that it waits, zeros after them; the clause buffer is all 0.

@@ -482,7 +482,7 @@ def boundary_histories():
             [asked] = play([hold, ("max",)])
             encode = ("encode", 0, 1, ref.WORK_WORDS if asked.refusal == 0 else 5)
             yield f"{name}, {case}", [hold, ("coarse", 5)] + [more, encode] * (len(hold[2]) < 800)
-    widest = [("start", [1, 2], [1 << 19, 1], 3, 8 * 200, 400), ("encode", 0, 1, ref.WORK_WORDS)]
+    widest = [("start", [1, 2], [1 << 19, 1], 3, 8 * 200, 400), ("set", 1), ("encode", 0, 1, ref.WORK_WORDS)]
     bounds = [("coarse", u) for u in (WORD_64, (1 << 19) - 1, 1 << 19)]
     yield "19 tares", widest + [("enforce", 0, 20), ("enforce", 0, 19)] + bounds
     for count in (256, 257):

@@ -158,14 +158,20 @@ class Play:
 
     # what several histories do
 
-    def began(self, title, weights, first=None, lits=None, records=200, words=2000):
-        """A history's title, inputs, room for so much, every lent word 9, and its start."""
+    def began(self, title, weights, first=None, lits=None, records=200, words=2000, divisor=1):
+        """A history's title, inputs, room for so much, every lent word 9, its start and, unless it is None, a divisor."""
         lits = lits or list(range(1, len(weights) + 1))
         self.history(title)
         self.inputs(lits, weights)
         self.lend(8 * records, words)
         self.fill(9)
-        return self.start(first or max(map(abs, lits), default=0) + 1)
+        first = first or max(map(abs, lits), default=0) + 1
+        if divisor is None:
+            return self.start(first)
+        self.brief = True
+        expect(self.start(first), 0)
+        self.brief = False
+        return self.set(divisor)
 
     def whole(self):
         """A range that reaches every output there is."""

@@ -494,7 +494,8 @@ def start(lits, weights, first, store, clauses):
     records = [Leaf(literal) for literal in lits] + [Waiting(n, weight) for n, weight in enumerate(weights)]
     lay(list(chain.from_iterable(map(image, records))), store)
     lay([], clauses)
-    return 0, ZERO._replace(inputs=len(lits), sum=sum(weights), set=1, records=len(records), fresh=first)
+    divisor = 1 << power_of(max(weights, default=0))
+    return 0, ZERO._replace(inputs=len(lits), sum=sum(weights), set=divisor, records=len(records), fresh=first)
 
 
 def combined(lits, weights):
@@ -741,12 +742,17 @@ def satisfiable(clauses):
 
 
 class Room:
-    """Lent slices of one caller and the calls over them, each keeping the state that it answers."""
+    """Lent slices of one caller and the calls over them, each keeping the state that it answers.
 
-    def __init__(self, lits, weights, first, records=100, words=1000):
+    After an accepted start the divisor is set, to 1 unless told otherwise; None leaves the one that start chose (Ask 7).
+    """
+
+    def __init__(self, lits, weights, first, records=100, words=1000, divisor=1):
         self.lits, self.weights = combined(lits, weights)
         self.store, self.clauses, self.work = [9] * (8 * records), [9] * words, [9] * WORK_WORDS
         self.refusal, self.state = start(lits, weights, first, self.store, self.clauses)
+        if self.refusal == 0 and divisor is not None:
+            self.set(divisor)
 
     def set(self, divisor):
         refusal, self.state = set_precision(self.state, self.store, self.clauses, divisor)
@@ -910,9 +916,31 @@ def heavy():
     yield "are one input", (room.enforce(0), room.enforce(1)), ((0, [-7]), (0, []))
 
 
+def starting():
+    """Ask 7: another starting divisor."""
+    for lits, weights, divisor in (
+        ([1, 2, 3], [1, 2, 3], 2),
+        ([1, 2], [8, 15], 8),
+        ([1, 1], [3, 3], 4),
+        ([1], [MOST_WEIGHT], 1 << 19),
+        ([1], [1], 1),
+        ([], [], 1),
+    ):
+        room = Room(lits, weights, 4, divisor=None)
+        yield f"{weights} starts at", room.state.set, divisor
+        yield "which next_precision names", next_precision(room.state, room.store, room.clauses), (0, divisor)
+    room = Room([1, 2], [9, 15], 3, divisor=None)
+    yield "encode at it", room.encode(0, 1), 0
+    yield "W and built", (room.state.tares_used, room.state.built), (0, 8)
+    room = Room([1, 2], [3, 3], 3, divisor=None)
+    yield "a divisor above", (room.set(4), room.encode(0, 1)), (0, 10)
+    room = Room([7], [2], 8, divisor=None)
+    yield "one input asked without a set", room.enforce(1), (0, [])
+
+
 def self_test():
     passed = failed = 0
-    for case in (p1, p2, p3, p5, p6, p8, p9, most_inputs, twice, heavy):
+    for case in (p1, p2, p3, p5, p6, p8, p9, most_inputs, twice, heavy, starting):
         for name, found, expected in case():
             if found == expected:
                 passed += 1

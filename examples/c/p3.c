@@ -16,8 +16,13 @@ int main(void) {
         printf("start: refusal %u\n", started.refusal);
         return 1;
     }
+    tweedpillar_answered set = tweedpillar_set_precision(started.state, store, 8 * 14, clauses, 34, 1);
+    if (set.refusal) {
+        printf("set: refusal %u\n", set.refusal);
+        return 1;
+    }
     tweedpillar_encoded e = tweedpillar_encode_ub_change(
-        started.state, store, 8 * 14, clauses, 34, work, TWEEDPILLAR_WORK_WORDS, 2, 4);
+        set.state, store, 8 * 14, clauses, 34, work, TWEEDPILLAR_WORK_WORDS, 2, 4);
     if (e.refusal) {
         printf("encode: refusal %u\n", e.refusal);
         return 1;

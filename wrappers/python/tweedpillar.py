@@ -95,13 +95,19 @@ class Library:
 
 
 class Build:
-    """One build with its slices. A call that refuses raises Refused and leaves the build as it was."""
+    """One build with its slices. A call that refuses raises Refused and leaves the build as it was.
 
-    def __init__(self, lits, loads, first, records, clause_words, library=None):
+    The divisor is set after start, to 1 unless told otherwise; None leaves the one that start chooses, the top power of the
+    largest weight.
+    """
+
+    def __init__(self, lits, loads, first, records, clause_words, library=None, divisor=1):
         self.library = library or Library()
         self.store, self.clauses, self.work = words(8 * records), signed(clause_words), words(WORK_WORDS)
         answer = self.library.start(signed(lits), weights(loads), first, self.store, self.clauses)
         self.state = self._accepted("start", answer).state
+        if divisor is not None:
+            self.set_precision(divisor)
 
     @staticmethod
     def _accepted(call, answer):

@@ -34,24 +34,25 @@ xs = pos 1 ∷ pos 2 ∷ pos 3 ∷ []
 abbrev ws : List ℕ
 ws = 1 ∷ 2 ∷ 3 ∷ []
 
+-- P3: divisor 1 set, range 2 to 4
 abbrev p3 : Memory
-p3 = encode-call (started xs ws 4 (store 14) (signed 34)) work 2 4
+p3 = encode-call (set-call (started xs ws 4 (store 14) (signed 34)) 1) work 2 4
 
 -- each input weighs its weight, 3 by two buckets
 p3-weights : map (weight-of (buildOf (p3 .state) (p3 .store))) xs ≡ ws
-unfolding started encode-call stands buildOf output-weight
+unfolding started set-call encode-call stands buildOf output-weight
 p3-weights = refl
 
 -- P4: the answer for u = 2, -10 and 4, admits exactly the sums up to 2
 p4-two : (α : Assign) → Admits xs (clauses-in p3) (negsuc 9 ∷ pos 4 ∷ []) α ↔ (sum-of xs ws 1 (holds α) ≤ 2)
-unfolding started encode-call enforce-ub start-refusal combined-literals combined-weights
+unfolding started set-call encode-call enforce-ub start-refusal combined-literals combined-weights
 p4-two α =
-    demand3-exactly xs ws 4 (store 14) (signed 34) refl p3 (next-encode work 2 4 none-yet) (signed 2) 2 (negsuc 9) (pos 4 ∷ []) refl refl p3 none-yet refl α
+    demand3-exactly xs ws 4 (store 14) (signed 34) refl p3 (next-encode work 2 4 (next-set 1 none-yet)) (signed 2) 2 (negsuc 9) (pos 4 ∷ []) refl refl p3 none-yet refl α
 
 -- and the one for u = 6 is empty, since all together weigh 6
 p4-six : sum-of xs ws 1 (λ x. true) ≤ 6
-unfolding started encode-call enforce-ub start-refusal combined-literals combined-weights
-p4-six = answer-promise xs ws 4 (store 14) (signed 34) refl p3 (next-encode work 2 4 none-yet) (signed 2) 6 refl
+unfolding started set-call encode-call enforce-ub start-refusal combined-literals combined-weights
+p4-six = answer-promise xs ws 4 (store 14) (signed 34) refl p3 (next-encode work 2 4 (next-set 1 none-yet)) (signed 2) 6 refl
 
 -- P6: weights 9, 15 at divisor 8, output 2 encoded; the used words are lent again in longer slices and refined to 1
 abbrev ys : List ℤ

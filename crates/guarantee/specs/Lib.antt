@@ -17,4 +17,5 @@ pub mod Calls
 pub mod Words
 pub mod Admitted
 pub mod Totals
+pub mod Starting
 pub mod Instances

@@ -4,16 +4,16 @@ use mathlib.Core.Logic.{_↔_}
 use mathlib.Core.Bool.{Bool, true, false, cond, _&&_, _||_}
 use mathlib.Core.Option.{Option, some}
 use mathlib.Core.List.{List, [], _∷_, zipWith}
-use Prim.Native.Nat.{ℕ, zero, suc, _+_, _*_, _/_, _≤_, _<_, max}
+use Prim.Native.Nat.{ℕ, _+_, _*_, _/_, _≤_, _<_, max}
 use native.Mathlib.Omega.{arith}
 use native.Mathlib.Nat.{mul-one, mul-zero, div-one}
 use lib.Dec.{eqb, leb, ltb}
 use lib.ListN.{length}
 use lib.IntN.{ℤ, negℤ, natAbs}
-use borrow.Author.Tests.{eq-eqb, ne-eqb, eqb-true, leb-true, leb-false, lt-ltb, le-leb, lt-leb}
+use borrow.Author.Tests.{eq-eqb, ne-eqb, eqb-true, leb-true, leb-false, lt-ltb}
 use Rattle.rules.specs.Lists.{total, rising}
-use Rattle.rules.specs.Numbers.{lawful, divisor-of}
-use Rattle.rules.specs.Records.{leaf, Entry, nodeAt, node-of, leaf-node}
+use Rattle.rules.specs.Numbers.{lawful}
+use Rattle.rules.specs.Records.{Entry, nodeAt, node-of, leaf-node}
 use Rattle.rules.specs.Totalizer.{Arena, literal-of}
 use Rattle.rules.specs.Build.{Build, largest}
 use Rattle.rules.specs.Start.{new-build}
@@ -23,7 +23,7 @@ use Rattle.laws.specs.Lists.Facts.{or-right}
 use Rattle.laws.specs.Records.Words.{both}
 use Rattle.preserve.specs.Starts.{Lent}
 use Rattle.preserve.specs.Sets.{set-to}
-use Rattle.guarantee.specs.Meaning.Truth.{Assign, Truths, holds, not-both, neg-holds, both as contradict}
+use Rattle.guarantee.specs.Meaning.Truth.{Assign, holds, not-both, neg-holds, both as contradict}
 use Rattle.guarantee.specs.Meaning.Values.{bit}
 use Rattle.guarantee.specs.Promise.{sum-of, Admits}
 use Rattle.guarantee.specs.Histories.Worlds.{Leads, here, then-set, then-encode}

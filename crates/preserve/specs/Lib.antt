@@ -1,5 +1,6 @@
 -- What accepted calls leave is well formed again.
 pub mod Starts
+pub mod Begins
 pub mod Sets
 pub mod Given
 pub mod Gathered

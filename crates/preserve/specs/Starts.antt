@@ -3,7 +3,7 @@ use mathlib.Core.Path.{_≡_, refl, sym, _∙_, ap, ap₂, subst}
 use mathlib.Core.Logic.{_≢_, inl}
 use mathlib.Core.Bool.{Bool, true, false, not, cond, _||_}
 use mathlib.Core.List.{List, [], _∷_, _++_, map, zipWith}
-use Prim.Native.Nat.{ℕ, zero, suc, _+_, _*_, _≤_, _<_}
+use Prim.Native.Nat.{ℕ, zero, suc, _+_, _*_, _^_, _≤_, _<_}
 use native.Mathlib.Omega.{arith}
 use lib.Dec.{ltb, eqb, leb}
 use lib.ListN.{length, length-map, length-append}
@@ -11,15 +11,16 @@ use lib.IntN.{ℤ, pos, natAbs}
 use borrow.Author.Tests.{ltb-false, eqb-false, eqb-true, leb-true, ltb-true, eq-eqb, ne-eqb, lt-ltb, le-ltb, le-leb}
 use Rattle.rules.specs.Lists.{all, total, rising, padded}
 use Rattle.rules.specs.Numbers.{lawful, lawful-weight, capacity, most-inputs, most-variable, most-weight}
-use Rattle.rules.specs.Digits.{top-bit, digits, bit-length}
+use Rattle.rules.specs.Digits.{top-bit}
 use Rattle.rules.specs.Combined.{combined-literals, weight-named, combined-weights}
 use Rattle.rules.specs.Refusals.{first-of, lists-differ, literal-unlawful, weight-unlawful, fresh-unlawful}
 use Rattle.rules.specs.Records.{Node, Output, Entry, Record, node, waits, nodeAt, node-of, outputs, leaf-node, literal-word}
 use Rattle.rules.specs.Build.{Build, records, clause-total, clause-mark, clause-words}
 use Rattle.rules.specs.WellFormed.{known, is-node, well-formed}
-use Rattle.rules.specs.Start.{start-no-room, start-refusal, new-build, start, start-end}
+use Rattle.rules.specs.Start.{start-no-room, start-refusal, heaviest, starting-divisor, new-build, start, start-end}
 use Rattle.laws.specs.Records.Words.{both}
 use Rattle.laws.specs.Lists.Facts.{All, All-map, All-zip, All-image, All-source, All-rising, and-true, neither, not-not, all-facts, facts-all, total-cong, length-total, occurs, rising-has}
+use Rattle.laws.specs.Numbers.Powers.{top-bit-power}
 use Rattle.laws.specs.Records.Places.{place}
 use Rattle.laws.specs.Combined.{combined-once, combined-all, combined-stands, combined-few, combined-lengths, named-positive, combined-same, combined-weights-same, combined-twice, combined-weights-twice}
 use Rattle.laws.specs.WellFormed.Plain.{Ruled, Defined, Taken, Waits, variables-of, Formed}
@@ -143,6 +144,11 @@ start-combined lits weights first store clauses e =
     ap₂ (λ (n : ℕ) (b : Build). start-end n b store clauses) (e ∙ sym accepted)
     (sym (ap₂ (λ (ys : List ℤ) (vs : List ℕ). new-build ys vs first) (combined-twice lits) (combined-weights-twice lits weights)))
 
+-- a starting divisor is a power of two
+starting-power : (ws : List ℕ) → starting-divisor ws ≡ 2 ^ top-bit (starting-divisor ws)
+unfolding starting-divisor
+starting-power ws = sym (ap (λ (k : ℕ). 2 ^ k) (top-bit-power (top-bit (heaviest ws))))
+
 module _ (xs : List ℤ) (ws : List ℕ) (first : ℕ) (store : List ℕ) (l : Lent xs ws first store) where
   there : (i : ℕ) → i < length ws → place (leaves xs) i ≡ true
   there i h =
@@ -179,7 +185,7 @@ module _ (xs : List ℤ) (ws : List ℕ) (first : ℕ) (store : List ℕ) (l : L
 
   -- a new build is well formed
   pub new-formed : Formed (new-build xs ws first)
-  unfolding new-build clause-total clause-mark clause-words known waits leaf-node occurs top-bit digits bit-length
+  unfolding new-build clause-total clause-mark clause-words known waits leaf-node occurs
   new-formed =
       let low : 1 ≤ first = l .first-low in
       let few : first ≤ 1000000000 = l .first-few in
@@ -202,7 +208,7 @@ module _ (xs : List ℤ) (ws : List ℕ) (first : ℕ) (store : List ℕ) (l : L
         waiting-are = waits-new;
         spares = λ i half a b e. (refl, inl refl);
         entries-spare = entries-are (λ i. occurs i [] ≡ 0) (λ i h. refl);
-        set-power = refl;
+        set-power = starting-power ws;
         if-unbuilt = λ z. record {
           no-tare = refl;
           no-bucket = refl;

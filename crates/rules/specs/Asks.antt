@@ -1,14 +1,14 @@
 -- Cases of document 02's asks, computed over the public calls: what each changed, and what it left.
 use mathlib.Core.Path.{_≡_, refl}
 use mathlib.Core.List.{List, [], _∷_, _++_, map}
-use Prim.Native.Nat.{ℕ, _+_, _*_}
-use lib.ListN.{length, replicate}
+use Prim.Native.Nat.{ℕ, _*_}
+use lib.ListN.{replicate}
 use lib.IntN.{ℤ, pos}
-use Rattle.rules.specs.declared.Combined.{Combined}
-use Rattle.rules.specs.Refusals.{answer-number}
+use Rattle.rules.specs.Refusals.{answer-number, precision-value}
 use Rattle.rules.specs.Combined.{combined-literals, combined-weights}
-use Rattle.rules.specs.Start.{StartEnd, checked, list-of, start}
-use Rattle.rules.specs.Blackboard.{Lent, starting, started, set-to, encoded, enforced, counts, neg}
+use Rattle.rules.specs.Start.{checked, list-of}
+use Rattle.rules.specs.Precision.{next-precision}
+use Rattle.rules.specs.Blackboard.{Lent, starting, started, set-to, encoding, encoded, enforced, weight-and-maximum, neg}
 
 -- Ask 4: the list that lines are combined to
 listed : List ℤ → List ℕ → List ℤ × List ℕ
@@ -85,3 +85,32 @@ heavy = refl
 heavy-lines : map (enforced (set-to (started (pos 7 ∷ pos 7 ∷ []) (3 ∷ 2 ∷ []) 8 16 0) 4)) (0 ∷ 1 ∷ []) ≡ (0, neg 7 ∷ []) ∷ (0, []) ∷ []
 unfolding enforced set-to started neg
 heavy-lines = refl
+
+-- Ask 7: the divisor that a start leaves, and what next_precision answers then
+first-divisor : List ℤ → List ℕ → ℕ × ℕ
+unfolding started next-precision precision-value
+first-divisor lits weights =
+    let a : Lent = started lits weights 9 160 0 in
+    (a .state .set, precision-value (next-precision (a .state) (a .store) (a .clauses)))
+
+-- the top power of the largest weight, which is combined; 1 when there are no inputs
+first-divisors :
+    first-divisor (pos 1 ∷ pos 2 ∷ pos 3 ∷ []) (1 ∷ 2 ∷ 3 ∷ []) ∷
+    first-divisor (pos 1 ∷ pos 2 ∷ []) (8 ∷ 15 ∷ []) ∷
+    first-divisor (pos 1 ∷ pos 1 ∷ []) (3 ∷ 3 ∷ []) ∷
+    first-divisor (pos 1 ∷ []) (1048575 ∷ []) ∷
+    first-divisor (pos 1 ∷ []) (1 ∷ []) ∷
+    first-divisor [] [] ∷ [] ≡
+    (2, 2) ∷ (8, 8) ∷ (4, 4) ∷ (524288, 524288) ∷ (1, 1) ∷ (1, 1) ∷ []
+unfolding first-divisor
+first-divisors = refl
+
+-- a first build at that divisor has one bucket and no tare: W is 1; it is never refused by 10, which comes once a divisor above was set
+coarse-first : weight-and-maximum (encoded (started (pos 1 ∷ pos 2 ∷ []) (9 ∷ 15 ∷ []) 3 160 20) 0 1) ≡ (1, 2)
+unfolding weight-and-maximum encoded started
+coarse-first = refl
+
+ten-after-a-set : map (λ (a : Lent). answer-number (encoding a 0 1 .answer .answer))
+    (started (pos 1 ∷ pos 2 ∷ []) (3 ∷ 3 ∷ []) 3 160 20 ∷ set-to (started (pos 1 ∷ pos 2 ∷ []) (3 ∷ 3 ∷ []) 3 160 20) 4 ∷ []) ≡ 0 ∷ 10 ∷ []
+unfolding encoding started set-to answer-number
+ten-after-a-set = refl

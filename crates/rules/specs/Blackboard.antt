@@ -14,7 +14,7 @@ use Rattle.rules.specs.Digits.{digits}
 use Rattle.rules.specs.Records.{literal-word, leaf, join, dummy, Node, nodes}
 use Rattle.rules.specs.Build.{clause-words, held, buildOf, output-weight, root-node}
 use Rattle.rules.specs.Start.{StartEnd, start}
-use Rattle.rules.specs.Precision.{set-precision}
+use Rattle.rules.specs.Precision.{set-precision, with-set}
 use Rattle.rules.specs.Encode.{EncodeEnd, encode-ub-change}
 use Rattle.rules.specs.Enforce.{EnforceEnd, enforce-ub}
 use Rattle.rules.specs.Coarse.{coarse-ub}
@@ -43,6 +43,13 @@ setting a divisor = set-precision (a .state) (a .store) (a .clauses) divisor
 unfoldable pub set-to : Lent → ℕ → Lent
 unfolding setting
 set-to a divisor = record { state = setting a divisor .state; store = a .store; clauses = a .clauses }
+
+-- an accepted start, then divisor 1: the state that a set leaves (that it is accepted: `start-then-set` in `preserve`)
+unfoldable pub begun : List ℤ → List ℕ → ℕ → ℕ → ℕ → Lent
+unfolding started with-set
+begun lits weights first n m =
+    let a : Lent = started lits weights first n m in
+    record { state = with-set (a .state) 1; store = a .store; clauses = a .clauses }
 
 unfoldable pub encoding : Lent → ℕ → ℕ → EncodeEnd
 unfolding encode-ub-change
@@ -77,7 +84,7 @@ unfoldable pub tares : Lent → List ℕ
 tares a = take (a .state .«tares_used») (a .state .tares)
 
 -- W and the root's maximum
-pub weight-and-maximum : Lent → ℕ × ℕ
+unfoldable pub weight-and-maximum : Lent → ℕ × ℕ
 unfolding buildOf output-weight root-node
 weight-and-maximum a = (output-weight (buildOf (a .state) (a .store)), root-node (buildOf (a .state) (a .store)) .maximum)
 
@@ -85,15 +92,15 @@ weight-and-maximum a = (output-weight (buildOf (a .state) (a .store)), root-node
 unfoldable pub neg : ℕ → ℤ
 neg n = negsuc (n - 1)
 
--- P2: weights 4, 4 have two tares, W = 4
+-- P2: weights 4, 4 have two tares, W = 4; P2 to P5 are cases at divisor 1, so each sets it (Ask 7)
 pub p2-build : Lent
-unfolding started encoded
-p2-build = encoded (started (pos 1 ∷ pos 2 ∷ []) (4 ∷ 4 ∷ []) 3 400 100) 0 1
+unfolding begun encoded
+p2-build = encoded (begun (pos 1 ∷ pos 2 ∷ []) (4 ∷ 4 ∷ []) 3 400 100) 0 1
 
 -- P3: the store has room for 14 records
 unfoldable pub p3-start : ℕ → Lent
-unfolding started
-p3-start words = started (pos 1 ∷ pos 2 ∷ pos 3 ∷ []) (1 ∷ 2 ∷ 3 ∷ []) 4 112 words
+unfolding begun
+p3-start words = begun (pos 1 ∷ pos 2 ∷ pos 3 ∷ []) (1 ∷ 2 ∷ 3 ∷ []) 4 112 words
 
 unfoldable pub p3-build : Lent
 unfolding p3-start encoded
@@ -106,8 +113,8 @@ p3-short = encoding (p3-start 33) 2 4
 
 -- P5
 pub p5-build : Lent
-unfolding started encoded
-p5-build = encoded (started (pos 1 ∷ pos 2 ∷ []) (4 ∷ 12 ∷ []) 3 400 100) 0 1
+unfolding begun encoded
+p5-build = encoded (begun (pos 1 ∷ pos 2 ∷ []) (4 ∷ 12 ∷ []) 3 400 100) 0 1
 
 -- the literals of the leaves
 leaf-literals : List Node → List ℤ

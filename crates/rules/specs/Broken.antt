@@ -13,7 +13,7 @@ use Rattle.rules.specs.Totalizer.{joining, add}
 use Rattle.rules.specs.Build.{Build, records, stateOf}
 use Rattle.rules.specs.WellFormed.{well-formed-clauses}
 use Rattle.rules.specs.Precision.{set-precision}
-use Rattle.rules.specs.Blackboard.{Lent, started, set-to, encoded, p3-build}
+use Rattle.rules.specs.Blackboard.{Lent, started, begun, set-to, encoded, p3-build}
 
 -- places of the clauses that fail
 places-from : ℕ → List Bool → List ℕ
@@ -86,8 +86,8 @@ words place ws a = record { state = a .state; store = write (8 * place) ws (a .s
 
 -- unbuilt: inputs 1 and 2 wait with weights 3 and 2, at places 2 and 3
 new : Lent
-unfolding started
-new = started (pos 1 ∷ pos 2 ∷ []) (3 ∷ 2 ∷ []) 10 400 100
+unfolding begun
+new = begun (pos 1 ∷ pos 2 ∷ []) (3 ∷ 2 ∷ []) 10 400 100
 
 -- built at 8, weights 9 and 15: leaves 0 and 1, their merge 2, dummy 3, bucket 4, outputs (2, 2) and (4, 2) numbered 3 and 4 at 5 and 6,
 -- leaf 1 waits with 7 at 7, leaf 0 with 1 at 8

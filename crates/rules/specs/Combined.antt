@@ -1,5 +1,5 @@
 -- Ask 4 of document 02, "the same volume twice": the combined list of the lines that start is sent.
-use mathlib.Core.Bool.{Bool, cond}
+use mathlib.Core.Bool.{cond}
 use mathlib.Core.List.{List, [], _∷_, _++_, map}
 use Prim.Native.Nat.{ℕ, _+_}
 use lib.Dec.{eqb}

@@ -5,7 +5,7 @@ use Prim.Native.Nat.{_-_}
 use lib.ListN.{length}
 use lib.IntN.{pos}
 use Rattle.rules.specs.Build.{clause-words}
-use Rattle.rules.specs.Blackboard.{Lent, started, set-to, encoded, enforced, used, counts, tares, neg, p3-build, p6-refined}
+use Rattle.rules.specs.Blackboard.{Lent, started, begun, set-to, encoded, enforced, used, counts, tares, neg, p3-build, p6-refined}
 
 -- P3, the store, whole: leaves 1, 2, 3; weight 3 takes leaf 3, which waits with 1; weight 2 takes leaf 2; weight 1 merges leaves 1 and 3
 p3-store : p3-build .store ≡
@@ -59,8 +59,8 @@ p6-counts = refl
 
 -- an empty middle bucket keeps its tare: weights 1, 4 have tares 3 and 4
 middle-build : Lent
-unfolding started encoded
-middle-build = encoded (started (pos 1 ∷ pos 2 ∷ []) (1 ∷ 4 ∷ []) 3 400 100) 0 5
+unfolding begun encoded
+middle-build = encoded (begun (pos 1 ∷ pos 2 ∷ []) (1 ∷ 4 ∷ []) 3 400 100) 0 5
 
 middle : used middle-build ≡ clause-words (
     (neg 1 ∷ neg 3 ∷ pos 5 ∷ []) ∷
@@ -102,8 +102,8 @@ between-counts = refl
 
 -- x and -x both inputs
 both-build : Lent
-unfolding started encoded
-both-build = encoded (started (pos 1 ∷ neg 1 ∷ []) (3 ∷ 2 ∷ []) 2 400 100) 0 5
+unfolding begun encoded
+both-build = encoded (begun (pos 1 ∷ neg 1 ∷ []) (3 ∷ 2 ∷ []) 2 400 100) 0 5
 
 both : used both-build ≡ clause-words (
     (neg 1 ∷ neg 2 ∷ pos 3 ∷ []) ∷
@@ -129,8 +129,8 @@ finer = refl
 
 -- the arrays full: weights 1,048,575 and 1 have 19 tares and 20 buckets, and the longest answer is 20 literals
 full-build : Lent
-unfolding started encoded
-full-build = encoded (started (pos 1 ∷ pos 2 ∷ []) (1048575 ∷ 1 ∷ []) 3 1600 400) 0 1
+unfolding begun encoded
+full-build = encoded (begun (pos 1 ∷ pos 2 ∷ []) (1048575 ∷ 1 ∷ []) 3 1600 400) 0 1
 
 full : full-build .state .«tares_used» ∷ full-build .state .«buckets_used» ∷ length (enforced full-build 0 .1) ∷ [] ≡ 19 ∷ 20 ∷ 20 ∷ []
 unfolding full-build enforced
@@ -138,8 +138,8 @@ full = refl
 
 -- equal weights keep the order in which they came: weights 1, 1
 equal-build : Lent
-unfolding started encoded
-equal-build = encoded (started (pos 1 ∷ pos 2 ∷ []) (1 ∷ 1 ∷ []) 3 400 100) 0 2
+unfolding begun encoded
+equal-build = encoded (begun (pos 1 ∷ pos 2 ∷ []) (1 ∷ 1 ∷ []) 3 400 100) 0 2
 
 equal : used equal-build ≡ clause-words (
     (neg 2 ∷ pos 3 ∷ []) ∷

@@ -8,7 +8,7 @@ use Rattle.rules.specs.Lists.{rising}
 use Rattle.rules.specs.Refusals.{answer-number}
 use Rattle.rules.specs.Encode.{EncodeEnd, encode-ub-change}
 use Rattle.rules.specs.Enforce.{EnforceEnd, enforce-ub}
-use Rattle.rules.specs.Blackboard.{Lent, starting, started, setting, set-to, encoding, enforced, neg, p3-start, p3-build, p3-short, p9-build}
+use Rattle.rules.specs.Blackboard.{Lent, starting, started, begun, setting, set-to, encoding, enforced, neg, p3-start, p3-build, p3-short, p9-build}
 
 -- P3 with 33 words: all words past the old marks are 0, the others as they were, and the state came back
 p3-unchanged : p3-short .store ≡ p3-start 33 .store
@@ -92,9 +92,9 @@ unfolding encode-refusal-of
 encode-refusals = refl
 
 -- fresh numbers end at 1,000,000,000: one output can be numbered, two cannot
-last-number : map (λ end. answer-number (encoding (started (pos 1 ∷ pos 2 ∷ []) (1 ∷ 1 ∷ []) 1000000000 400 100) 0 end .answer .answer))
+last-number : map (λ end. answer-number (encoding (begun (pos 1 ∷ pos 2 ∷ []) (1 ∷ 1 ∷ []) 1000000000 400 100) 0 end .answer .answer))
     (1 ∷ 2 ∷ []) ≡ 0 ∷ 7 ∷ []
-unfolding encoding started answer-number
+unfolding encoding begun answer-number
 last-number = refl
 
 -- enforce's scratch: the answer is its front part, the rest untouched; too short, it is refused with 7 and untouched
@@ -111,9 +111,9 @@ unfolding enforce-scratch
 scratch-short = refl
 
 -- no inputs and one input
-few : map (enforced (started [] [] 1 0 0)) (0 ∷ []) ++ map (enforced (started (neg 4 ∷ []) (5 ∷ []) 5 16 0)) (5 ∷ 4 ∷ []) ≡
+few : map (enforced (begun [] [] 1 0 0)) (0 ∷ []) ++ map (enforced (begun (neg 4 ∷ []) (5 ∷ []) 5 16 0)) (5 ∷ 4 ∷ []) ≡
     (0, []) ∷ (0, []) ∷ (0, pos 4 ∷ []) ∷ []
-unfolding enforced started neg
+unfolding enforced begun neg
 few = refl
 
 -- the words past the marks, where the caller left 9s: 15 records and some clause words are lent to P3

@@ -1,7 +1,7 @@
 -- Start: what it refuses, the build it makes, and what each lent word holds afterwards.
 use mathlib.Core.Bool.{Bool}
 use mathlib.Core.List.{List, [], _∷_, map, zipWith}
-use Prim.Native.Nat.{ℕ, zero, suc, _*_}
+use Prim.Native.Nat.{ℕ, zero, suc, _*_, _^_, max}
 use lib.Dec.{ltb}
 use lib.ListN.{length, replicate}
 use lib.IntN.{ℤ, pos}
@@ -10,6 +10,7 @@ use Rattle.rules.specs.declared.Started.{Started}
 use Rattle.rules.specs.declared.Combined.{Combined}
 use Rattle.rules.specs.Lists.{total, rising, padded}
 use Rattle.rules.specs.Numbers.{most-inputs, most-tares, most-buckets, capacity}
+use Rattle.rules.specs.Digits.{top-bit}
 use Rattle.rules.specs.Combined.{combined-literals, combined-weights}
 use Rattle.rules.specs.Refusals.{first-of, lists-differ, literal-unlawful, weight-unlawful, fresh-unlawful, answer-of}
 use Rattle.rules.specs.Records.{node, imageOf, leaf-node, literal-word}
@@ -55,14 +56,24 @@ start-refusal lits weights first store = first-of (
     (5, fresh-unlawful lits first) ∷
     (7, start-no-room lits store) ∷ [])
 
--- a new build: a leaf for each literal, each waiting with its weight; it has divisor 1
+-- the largest weight, 0 where there is none
+unfoldable pub heaviest : List ℕ → ℕ
+heaviest [] = 0
+heaviest (w ∷ ws) = max w (heaviest ws)
+
+-- Ask 7: a new build starts at the top power of its largest weight, and 1 when there are no inputs
+unfoldable pub starting-divisor : List ℕ → ℕ
+unfolding top-bit heaviest
+starting-divisor weights = 2 ^ top-bit (heaviest weights)
+
+-- a new build: a leaf for each literal, each waiting with its weight
 unfoldable pub new-build : List ℤ → List ℕ → ℕ → Build
-unfolding total leaf-node rising zipWith
+unfolding total starting-divisor leaf-node rising zipWith
 new-build lits weights first = record {
   inputs = length lits;
   sum = total weights;
   first = first;
-  set = 1;
+  set = starting-divisor weights;
   built = 0;
   tares = [];
   buckets = [];

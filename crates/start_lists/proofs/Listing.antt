@@ -9,7 +9,6 @@ use lib.ListN.{length, getD, take, drop, set, replicate, length-append, length-m
 use lib.Seq.{take-suc, take-all, take-at, drop-cons, set-append-seam}
 use lib.IntN.{ℤ}
 use borrow.Author.Tests.{leb-true, eq-eqb, ne-eqb}
-use Rattle.rules.specs.declared.Combined.{Combined}
 use Rattle.rules.specs.Lists.{all, in-turn, among, padded}
 use Rattle.rules.specs.Numbers.{lawful, lawful-weight}
 use Rattle.rules.specs.Records.{literal-word}

@@ -18,7 +18,7 @@ use Rattle.rules.specs.Totalizer.{Arena}
 use Rattle.rules.specs.Combined.{combined-literals, combined-weights}
 use Rattle.rules.specs.Refusals.{first-of, lists-differ, literal-unlawful, weight-unlawful, fresh-unlawful, answer-of}
 use Rattle.rules.specs.Build.{Build, records, stateOf, clause-words, clause-mark, clause-total, variable-total}
-use Rattle.rules.specs.Start.{list-refusal, list-of, checked-end, checked, start-no-room, new-build, zero-state, start-refusal, start-end, start}
+use Rattle.rules.specs.Start.{list-refusal, list-of, checked-end, checked, start-no-room, starting-divisor, new-build, zero-state, start-refusal, start-end, start}
 use Rattle.laws.specs.Lists.Facts.{and-true, facts-all}
 use Rattle.preserve.specs.Starts.{Lent as Lent-lists, lent}
 use Rattle.records.specs.declared.Marks.{Marks}
@@ -98,16 +98,17 @@ module _ (lits : List ℤ) (weights : List ℕ) (first : ℕ) (store : List ℕ)
       (held-zeroed entry (st s₂ [] m₂) left-behind enough held .0 ∙ ap (λ rs. padded 0 (length store) (imageOf rs)) (records-are ∙ as-built))
 
   -- its state
-  begun-state : (t : ℕ) → t ≡ total weights → state-with (length lits) t 1 (2 * length lits) first ≡ stateOf (new-build lits weights first)
+  begun-state : (t d : ℕ) → t ≡ total weights → d ≡ starting-divisor weights → state-with (length lits) t d (2 * length lits) first ≡ stateOf (new-build lits weights first)
   unfolding stateOf new-build state-with clause-mark clause-total clause-words variable-total padded
-  begun-state t e =
+  begun-state t d e f =
       let n : 2 * length lits ≡ length (records (new-build lits weights first)) = sym many ∙ ap length (records-are ∙ as-built) in
       let v : 0 ≡ first - first = omega arith in
-      ap₂ (λ (x y : ℕ). state-with (length lits) x 1 y first) e n ∙
+      ap₂ (λ (x y : ℕ). state-with (length lits) x d y first) e n ∙
+      ap (λ (x : ℕ). state-with (length lits) (total weights) x (length (records (new-build lits weights first))) first) f ∙
       ap (λ (x : ℕ). record {
         inputs = length lits;
         sum = total weights;
-        set = 1;
+        set = starting-divisor weights;
         built = 0;
         records = length (records (new-build lits weights first));
         words = 0;
@@ -121,12 +122,12 @@ module _ (lits : List ℤ) (weights : List ℕ) (first : ℕ) (store : List ℕ)
       }) v
 
   -- both, from what each part promises
-  pub begun : (n t : ℕ) (a : State) (m₀ m₁ m₂ : Marks) (s₁ s₂ s₃ : List ℕ) → n ≡ length lits → t ≡ total weights → a ≡ state-with n t 1 (2 * n) first → m₀ ≡ blank-marks first →
+  pub begun : (n t d : ℕ) (a : State) (m₀ m₁ m₂ : Marks) (s₁ s₂ s₃ : List ℕ) → n ≡ length lits → t ≡ total weights → d ≡ starting-divisor weights → a ≡ state-with n t d (2 * n) first → m₀ ≡ blank-marks first →
       ((c : List ℤ) → Steps (st store c m₀) (st s₁ c m₁) (with-more (leaf-records lits))) →
       ((c : List ℤ) → Steps (st s₁ c m₁) (st s₂ c m₂) (with-more (wait-records weights))) →
       s₃ ≡ padded 0 (length s₂) (take (16 * n) s₂) → Begun (new-build lits weights first) store a s₃
-  begun n t a m₀ m₁ m₂ s₁ s₂ s₃ is all e b p q z = record {
-    state-is = e ∙ (ap (λ (k : ℕ). state-with k t 1 (2 * k) first) is ∙ begun-state t all);
+  begun n t d a m₀ m₁ m₂ s₁ s₂ s₃ is all div e b p q z = record {
+    state-is = e ∙ (ap (λ (k : ℕ). state-with k t d (2 * k) first) is ∙ begun-state t d all div);
     store-is = z ∙ begun-store n m₀ m₁ m₂ s₁ s₂ is b p q;
   }
 

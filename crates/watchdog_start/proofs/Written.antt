@@ -2,17 +2,21 @@
 use mathlib.Core.Path.{_≡_, refl, sym, ap, _∙_}
 use mathlib.Core.Bool.{Bool, true}
 use mathlib.Core.List.{List, [], _∷_, _++_, map, zipWith, append-assoc, append-nil}
-use Prim.Native.Nat.{ℕ, zero, suc, _+_, _*_, _≤_, _<_}
+use Prim.Native.Nat.{ℕ, zero, suc, _+_, _*_, _^_, _%_, _≤_, _<_, max}
+use native.Mathlib.Nat.{mod-eq-of-lt}
 use native.Mathlib.Omega.{arith}
 use borrow.Author.Tests.{leb-true}
 use lib.Dec.{leb}
 use lib.ListN.{length, getD, take, drop, drop-of-length-le, length-map}
 use lib.Seq.{take-suc, take-all, drop-cons}
 use lib.IntN.{ℤ, pos}
+use lib.Pow.{pow-lt}
 use Rattle.rules.specs.Lists.{all, total, rising}
 use Rattle.rules.specs.Numbers.{lawful-weight}
+use Rattle.rules.specs.Digits.{top-bit}
 use Rattle.rules.specs.Records.{Record, node-of, node, waiting, unknown, leaf-node, literal-word}
 use Rattle.rules.specs.Totalizer.{Arena, add}
+use Rattle.rules.specs.Start.{heaviest, starting-divisor}
 use Rattle.laws.specs.Records.Words.{both}
 use Rattle.records.specs.Carries.{St, Steps, Makes, with-records, with-record, on-records, peak, size}
 use Rattle.records.proofs.Step.{steps-none, steps-then, steps-same, makes-steps}
@@ -147,6 +151,21 @@ total-here ws i h =
 pub total-none : (ws : List ℕ) (i : ℕ) → length ws ≤ i → total (drop i ws) ≡ 0
 unfolding total
 total-none ws i h = ap total (drop-of-length-le ws h)
+
+-- the largest, from place i on
+pub heaviest-here : (ws : List ℕ) (i : ℕ) → i < length ws → heaviest (drop i ws) ≡ max (getD ws i 0) (heaviest (drop (i + 1) ws))
+unfolding heaviest
+heaviest-here ws i h =
+    let up : suc i ≡ i + 1 = omega arith in
+    ap heaviest (drop-cons ws i 0 h) ∙ ap (λ (k : ℕ). max (getD ws i 0) (heaviest (drop k ws))) up
+
+pub heaviest-none : (ws : List ℕ) (i : ℕ) → length ws ≤ i → heaviest (drop i ws) ≡ 0
+unfolding heaviest
+heaviest-none ws i h = ap heaviest (drop-of-length-le ws h)
+
+pub starting-at : (ws : List ℕ) (most bit power : ℕ) → most ≡ heaviest ws → bit ≡ top-bit most → bit < 64 → power ≡ 2 ^ bit % 2 ^ 64 → power ≡ starting-divisor ws
+unfolding starting-divisor
+starting-at ws most bit power e f low g = g ∙ (mod-eq-of-lt (pow-lt low) ∙ ap (λ (k : ℕ). 2 ^ k) (f ∙ ap top-bit e))
 
 -- Sizes ----------------------------------------------------------------------------------------------------------------
 

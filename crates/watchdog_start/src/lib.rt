@@ -2,13 +2,13 @@
 ghost use mathlib.Core.Path.{_≡_};
 ghost use mathlib.Core.Bool.{true};
 ghost use mathlib.Core.List.{List, [], map};
-ghost use Prim.Native.Nat.{ℕ, _≤_};
+ghost use Prim.Native.Nat.{ℕ, _≤_, max};
 ghost use lib.ListN.{length};
 ghost use lib.IntN.{ℤ, pos};
 ghost use Rattle.rules.specs.Lists.{all, total, padded};
 ghost use Rattle.rules.specs.Numbers.{lawful-weight};
 ghost use Rattle.rules.specs.Records.{literal-word};
-ghost use Rattle.rules.specs.Start.{list-of, new-build, start};
+ghost use Rattle.rules.specs.Start.{list-of, heaviest, starting-divisor, new-build, start};
 ghost use Rattle.preserve.specs.Starts.{Lent};
 ghost use Rattle.records.specs.Carries.{st, Steps};
 ghost use Rattle.watchdog_start.specs.Writing.{with-more, leaf-records, wait-records, blank-marks, state-with, Begun, Inputs};
@@ -77,6 +77,36 @@ fn sum(weights: &[u64]) -> u64
     t
 }
 
+// The larger number. Constant time.
+fn larger(x: u64, y: u64) -> u64
+    ensures { λ r. ⌜ r ≡ max x y ⌝ }
+{
+    if x < y {
+        return y;
+    }
+    x
+}
+
+// The largest weight, 0 where there is none. Linear.
+fn heaviest(weights: &[u64]) -> u64
+    ensures { λ r. ⌜ r ≡ heaviest (now (weights .entry)) ⌝ }
+{
+    let mut most: u64 = 0;
+    let mut i: usize = 0;
+    while i < weights.len() {
+        most = larger(most, weights[i]);
+        i += 1;
+    }
+    most
+}
+
+// The divisor that a new build starts at. Linear.
+fn starting_divisor(weights: &[u64]) -> u64
+    ensures { λ r. ⌜ r ≡ starting-divisor (now (weights .entry)) ⌝ }
+{
+    numbers::power(numbers::top_bit(heaviest(weights)))
+}
+
 // A state with no tare and no bucket. Constant time.
 fn state(inputs: u32, sum: u64, set: u64, records: usize, first: u32) -> State
     ensures { λ r. ⌜ r ≡ state-with inputs sum set records first ⌝ }
@@ -115,10 +145,11 @@ fn begin(
     waits(store, m, weights);
     records_words::zero_words(store, INPUT_WORDS * literals.len());
     records_words::zero_signed(clauses, 0);
+    let divisor = starting_divisor(weights);
     state(
         literals.len() as u32,
         sum(weights),
-        1,
+        divisor,
         2 * literals.len(),
         first,
     )

@@ -72,7 +72,16 @@ fn accepted<T>(refusal: u32, value: T) -> Result<T, Refused> {
     if refusal == 0 { Ok(value) } else { Err(Refused(refusal)) }
 }
 
+/// A new build at divisor 1: `start_coarse`, then `set_precision` to 1.
 pub fn start(lits: &[i32], weights: &[u64], first: u32, store: &mut [u32], clauses: &mut [i32]) -> Result<State, Refused> {
+    let state = start_coarse(lits, weights, first, store, clauses)?;
+    set_precision(state, store, clauses, 1)
+}
+
+/// A new build at the divisor that the library's start chooses, the top power of the largest weight.
+pub fn start_coarse(
+    lits: &[i32], weights: &[u64], first: u32, store: &mut [u32], clauses: &mut [i32],
+) -> Result<State, Refused> {
     let r = unsafe {
         raw::tweedpillar_start(
             lits.as_ptr(), lits.len(), weights.as_ptr(), weights.len(), first,

@@ -1,5 +1,6 @@
 -- Any run of calls on words goes along with accepted calls on the build that they show.
 use mathlib.Core.Path.{_≡_, refl, sym, ap, _∙_, subst}
+use mathlib.Core.Logic.{_⊎_, inl, inr}
 use mathlib.Core.Bool.{Bool, true, false, not, _&&_}
 use mathlib.Core.List.{List, _++_}
 use Prim.Native.Nat.{ℕ, zero, suc, _+_, _-_}
@@ -33,17 +34,24 @@ pub record Goes (b : Build) (m : Memory) : Type 0 where
   pub leads : Leads b build
   pub shows : Shows m build
 
+-- what an encode leaves shows the build as it was, or the one that encode reaches
+pub record Encodes (b : Build) (lo end : ℕ) (m : Memory) : Type 0 where
+  pub build : Build
+  pub how : (build ≡ b) ⊎ (build ≡ encode b lo end)
+  pub leads : Leads b build
+  pub shows : Shows m build
+
 -- tests that look at neither clauses nor their counts
 same-coarser : (n m : ℕ) (b : Build) (d : ℕ) → divisor-coarser (recounted n m (bare b)) d ≡ divisor-coarser b d
 unfolding divisor-coarser unbuilt recounted bare with-arena restructured
 same-coarser n m b d = refl
 
-same-ten : (n m : ℕ) (b : Build) (lo end : ℕ) → (not (nothing-asked (recounted n m (bare b)) lo end) && divisor-above (recounted n m (bare b))) ≡ (not (nothing-asked b lo end) && divisor-above b)
+pub same-ten : (n m : ℕ) (b : Build) (lo end : ℕ) → (not (nothing-asked (recounted n m (bare b)) lo end) && divisor-above (recounted n m (bare b))) ≡ (not (nothing-asked b lo end) && divisor-above b)
 unfolding nothing-asked divisor-above unbuilt recounted bare with-arena restructured
 same-ten n m b lo end = refl
 
 module _ (xs : List ℤ) (ws : List ℕ) (b : Build) (w : World xs ws b) (m : Memory) (s : Shows m b) where
-  read-is : buildOf (m .state) (m .store) ≡ recounted (clause-total b) (clause-mark b) (bare b)
+  pub read-is : buildOf (m .state) (m .store) ≡ recounted (clause-total b) (clause-mark b) (bare b)
   read-is = shows-read m b s (w .formed)
 
   -- a set
@@ -118,7 +126,7 @@ module _ (xs : List ℤ) (ws : List ℕ) (b : Build) (w : World xs ws b) (m : Me
         }))
 
     -- an encode, accepted or refused
-    encode-goes : (work : List ℕ) → Goes b (encode-call m work lo end)
+    pub encode-goes : (work : List ℕ) → Encodes b lo end (encode-call m work lo end)
     unfolding encode-call encode-ub-change encode-end untouched no-room-end encoded-end encoded padded c
     encode-goes work = go (encode-refusal (m .state) (m .store) (m .clauses) work lo end) refl
       where
@@ -129,12 +137,13 @@ module _ (xs : List ℤ) (ws : List ℕ) (b : Build) (w : World xs ws b) (m : Me
         after-end e = record { state = e .answer .state; store = e .store; clauses = e .clauses }
 
         done : (t : Bool) → encode-refusal st (m .store) (m .clauses) work lo end ≡ 0 →
-            Goes b (after-end (elim t [ true ↦ untouched 0 st (m .store) (m .clauses) work | false ↦ encoded-end st c (m .store) (m .clauses) work ]))
-        done true e = record { build = b; leads = here; shows = s }
+            Encodes b lo end (after-end (elim t [ true ↦ untouched 0 st (m .store) (m .clauses) work | false ↦ encoded-end st c (m .store) (m .clauses) work ]))
+        done true e = record { build = b; how = inl refl; leads = here; shows = s }
         done false e =
             let a : Accepted st (m .store) (m .clauses) lo end = accepted st (m .store) (m .clauses) work lo end e in
             record {
               build = encode b lo end;
+              how = inr refl;
               leads = then-encode lo end here
                   (sym (same-ten (clause-total b) (clause-mark b) b lo end) ∙ (ap (λ (x : Build). not (nothing-asked x lo end) && divisor-above x) (sym read-is) ∙ a .divisor))
                   (omega (arith, fresh-same, a .fresh-fits));
@@ -142,15 +151,15 @@ module _ (xs : List ℤ) (ws : List ℕ) (b : Build) (w : World xs ws b) (m : Me
             }
 
         refused : (n : ℕ) (t : Bool) →
-            Goes b (after-end (elim t [ true ↦ no-room-end st (m .store) (m .clauses) work | false ↦ untouched (suc n) st (m .store) (m .clauses) work ]))
-        refused n true = record { build = b; leads = here; shows = kept-shows m _ b s refl _ refl _ refl }
-        refused n false = record { build = b; leads = here; shows = s }
+            Encodes b lo end (after-end (elim t [ true ↦ no-room-end st (m .store) (m .clauses) work | false ↦ untouched (suc n) st (m .store) (m .clauses) work ]))
+        refused n true = record { build = b; how = inl refl; leads = here; shows = kept-shows m _ b s refl _ refl _ refl }
+        refused n false = record { build = b; how = inl refl; leads = here; shows = s }
 
-        go : (n : ℕ) → encode-refusal st (m .store) (m .clauses) work lo end ≡ n → Goes b (after-end (encode-end n st (buildOf st (m .store)) c (m .store) (m .clauses) work))
+        go : (n : ℕ) → encode-refusal st (m .store) (m .clauses) work lo end ≡ n → Encodes b lo end (after-end (encode-end n st (buildOf st (m .store)) c (m .store) (m .clauses) work))
         go zero e = done (nothing-done (buildOf st (m .store)) c) e
         go (suc n) e = refused n (eqb (suc n) 7)
 
-leads-then : (a b c : Build) → Leads a b → Leads b c → Leads a c
+pub leads-then : (a b c : Build) → Leads a b → Leads b c → Leads a c
 leads-then a b c l here = l
 leads-then a b c l (then-set {c = m} d k e h) = then-set d (leads-then a b m l k) e h
 leads-then a b c l (then-encode {c = m} lo end k e h) = then-encode lo end (leads-then a b m l k) e h
@@ -167,7 +176,8 @@ run-goes xs ws b w m n s (next-set {n = k} d r) =
     goes-then b k n g (set-goes xs ws (g .build) (leads-world xs ws b (g .build) w (g .leads)) k (g .shows) d)
 run-goes xs ws b w m n s (next-encode {n = k} work lo end r) =
     let g : Goes b k = run-goes xs ws b w m k s r in
-    goes-then b k n g (encode-goes xs ws (g .build) (leads-world xs ws b (g .build) w (g .leads)) k (g .shows) lo end work)
+    let e : Encodes (g .build) lo end n = encode-goes xs ws (g .build) (leads-world xs ws b (g .build) w (g .leads)) k (g .shows) lo end work in
+    goes-then b k n g (record { build = e .build; leads = e .leads; shows = e .shows })
 run-goes xs ws b w m n s (next-lend {n = k} words signed r) =
     let g : Goes b k = run-goes xs ws b w m k s r in
     record { build = g .build; leads = g .leads; shows = kept-shows k n (g .build) (g .shows) refl words refl signed refl }

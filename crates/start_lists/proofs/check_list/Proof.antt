@@ -1,5 +1,5 @@
 -- `check_list` refuses lines one by one, then combines them and looks at the weights added.
-use mathlib.Core.Path.{_≡_, refl, sym, _∙_}
+use mathlib.Core.Path.{_≡_, refl, _∙_}
 use mathlib.Core.Bool.{true, false}
 use Prim.Native.Nat.{ℕ}
 use native.Mathlib.Omega.{arith}

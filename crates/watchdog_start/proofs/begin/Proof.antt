@@ -1,5 +1,5 @@
 -- `begin` writes the new build's records over what was there and zeroes the rest.
-use mathlib.Core.Path.{ap, sym, _∙_}
+use mathlib.Core.Path.{ap, _∙_}
 use native.Mathlib.Omega.{arith}
 use borrow.Author.Needs.{needs}
 use lib.ListN.{length, length-map}
@@ -30,14 +30,17 @@ zero-words-requires c κs = search needs
 zero-signed-requires : tie.Need-zero-signed-requires
 zero-signed-requires c κs = search needs
 
+starting-divisor-requires : tie.Need-starting-divisor-requires
+starting-divisor-requires c κs = search needs
+
 cast-state : tie.Need-cast-state
 cast-state c =
-    let pre = c .before .before .before .before .before .before .before .before .before .before .before .before .before .before .before .before .before .before .before .pre in
+    let pre = c .before .before .before .before .before .before .before .before .before .before .before .before .before .before .before .before .before .before .before .before .pre in
     omega (arith, pre .1, pre .2)
 
 sum-requires : tie.Need-sum-requires
 sum-requires c κs =
-    let pre = c .before .before .before .before .before .before .before .before .before .before .before .before .before .before .before .before .before .before .before .pre in
+    let pre = c .before .before .before .before .before .before .before .before .before .before .before .before .before .before .before .before .before .before .before .before .pre in
     (pre .0, pre .1)
 
 mul-state : tie.Need-mul-state
@@ -54,8 +57,8 @@ same-length-2 c = search needs
 
 returns : tie.Need-returns
 returns c = (
-  λ lits e l. begun _ _ _ _ l _ _ _ _ _ _ _ _ _ (ap length e ∙ length-map lits literal-word) (c .before .sum .ensures) (c .state .ensures) (c .before .before .before .before .before .before .before .before .before .before .before .before .before .before .before .before .blank .ensures) (c .before .before .before .before .before .before .before .before .before .before .before .before .before .before .before .leaves .ensures lits e) (c .before .before .before .before .before .before .before .before .before .before .before .waits .ensures) (c .before .before .before .before .before .before .before .zero-words .ensures),
-  c .before .before .before .zero-signed .ensures,
+  λ lits e l. begun _ _ _ _ l _ _ _ _ _ _ _ _ _ _ (ap length e ∙ length-map lits literal-word) (c .before .sum .ensures) (c .before .before .starting-divisor .ensures) (c .state .ensures) (c .before .before .before .before .before .before .before .before .before .before .before .before .before .before .before .before .before .blank .ensures) (c .before .before .before .before .before .before .before .before .before .before .before .before .before .before .before .before .leaves .ensures lits e) (c .before .before .before .before .before .before .before .before .before .before .before .before .waits .ensures) (c .before .before .before .before .before .before .before .before .zero-words .ensures),
+  c .before .before .before .before .zero-signed .ensures,
 )
 
 pub begin-spec : {M : Type 1} → statement M
@@ -68,6 +71,7 @@ begin-spec =
     mul-zero-words
     zero-words-requires
     zero-signed-requires
+    starting-divisor-requires
     cast-state
     sum-requires
     mul-state
