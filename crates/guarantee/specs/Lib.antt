@@ -1,6 +1,7 @@
 -- What a bound's answer admits. In the order in which it is read: what clauses mean, what the tree counts, what a refinement keeps, what calls
--- lead to; what an answer promises, and the proof of it over builds, of one input and of more; what lines of one literal weigh together; where each input stands and what it
--- weighs; calls over lent words, the promise over them, the totals that are reported, and instances.
+-- lead to; what an answer promises, and the proof of it over builds, of one input and of more; what lines of one literal weigh together; where
+-- each input stands and what it weighs; calls over lent words, the promise over them, the totals that are reported, the divisor that a build
+-- starts at, and instances.
 pub mod Meaning
 pub mod Counting
 pub mod Refinement
