@@ -18,6 +18,7 @@ impl Lent {
         }
     }
 
+    /// A start at divisor 1: the wrapper's start sets it.
     pub fn start(&mut self, case: &Case) -> State {
         start(&case.lits, &case.weights, case.first, &mut self.store, &mut self.clauses).expect("start")
     }
