@@ -151,7 +151,7 @@ raised wait A rs below xs inside s there avoid apart some few foot = go wait bel
     m = (merge rs xs).1
 
     most : (node_at rs₁ m).maximum ≤ 257
-    most = omega (arith, made.0.sum_is_lem)
+    most = omega (arith, made.0.sum_is)
 
     inside₁ : All (λ a. a < length rs₁) A
     inside₁ = All_map (λ a (h : a < length rs). omega (arith, grown_length rs rs₁ made.0.grown)) A inside

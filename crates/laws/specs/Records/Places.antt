@@ -214,22 +214,22 @@ links_pass q (r ∷ rs) h =
   where
     go : (r : Record) → all q (links r) ≡ true → LinksPass q rs → LinksPass q (r ∷ rs)
     go (node x) e ih = record {
-      of_nodes = λ n. elim n [ zero ↦ e | suc m ↦ ih.of_nodes m ];
+      of_nodes = λ n. elim n as (λ k. all q (node_links (node_at (node x ∷ rs) k).kind) ≡ true) [ zero ↦ e | suc m ↦ ih.of_nodes m ];
       of_outputs = ih.of_outputs;
       of_entries = ih.of_entries;
     }
     go (output o) e ih = record {
-      of_nodes = λ n. elim n [ zero ↦ refl | suc m ↦ ih.of_nodes m ];
+      of_nodes = λ n. elim n as (λ k. all q (node_links (node_at (output o ∷ rs) k).kind) ≡ true) [ zero ↦ refl | suc m ↦ ih.of_nodes m ];
       of_outputs = ((both (q o.node) true e).0, ih.of_outputs);
       of_entries = ih.of_entries;
     }
     go (waiting w) e ih = record {
-      of_nodes = λ n. elim n [ zero ↦ refl | suc m ↦ ih.of_nodes m ];
+      of_nodes = λ n. elim n as (λ k. all q (node_links (node_at (waiting w ∷ rs) k).kind) ≡ true) [ zero ↦ refl | suc m ↦ ih.of_nodes m ];
       of_outputs = ih.of_outputs;
       of_entries = ((both (q w.node) true e).0, ih.of_entries);
     }
     go unknown e ih = record {
-      of_nodes = λ n. elim n [ zero ↦ refl | suc m ↦ ih.of_nodes m ];
+      of_nodes = λ n. elim n as (λ k. all q (node_links (node_at (unknown ∷ rs) k).kind) ≡ true) [ zero ↦ refl | suc m ↦ ih.of_nodes m ];
       of_outputs = ih.of_outputs;
       of_entries = ih.of_entries;
     }

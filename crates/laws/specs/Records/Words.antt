@@ -34,24 +34,24 @@ word_not_one (pos n) e = omega arith
 word_not_one (negsuc n) e = omega arith
 
 -- words that are the image of what they say are a record
-record_of : (r : Record) (ws : List ℕ) →
+record_read : (r : Record) (ws : List ℕ) →
     reading (get_or ws 0 0) (get_or ws 1 0) (get_or ws 2 0) (get_or ws 3 0) (get_or ws 4 0) (get_or ws 5 0) ≡ r →
     record_image r ≡ ws →
     record_of ws ≡ r
 unfolding record_of
-record_of r ws e f =
+record_read r ws e f =
     ap (λ (x : Record). cond (same (record_image x) ws) x unknown) e ∙
     ap (λ (b : Bool). cond b r unknown) (ap (same (record_image r)) (sym f) ∙ same_self (record_image r))
 
 node_of_image : (k : Kind) (m h : ℕ) → record_of (node_image k m h) ≡ node (record { kind = k; maximum = m; height = h })
 unfolding node_image reading record_image
 node_of_image (leaf x) m h =
-    record_of (node (record { kind = leaf x; maximum = m; height = h })) (node_image (leaf x) m h)
+    record_read (node (record { kind = leaf x; maximum = m; height = h })) (node_image (leaf x) m h)
     (ap (λ (y : ℤ). node (record { kind = leaf y; maximum = m; height = h })) (literal_word_literal x))
     refl
-node_of_image (join true l r) m h = record_of (node (record { kind = join true l r; maximum = m; height = h })) (node_image (join true l r) m h) refl refl
-node_of_image (join false l r) m h = record_of (node (record { kind = join false l r; maximum = m; height = h })) (node_image (join false l r) m h) refl refl
-node_of_image dummy m h = record_of (node (record { kind = dummy; maximum = m; height = h })) (node_image dummy m h) refl refl
+node_of_image (join true l r) m h = record_read (node (record { kind = join true l r; maximum = m; height = h })) (node_image (join true l r) m h) refl refl
+node_of_image (join false l r) m h = record_read (node (record { kind = join false l r; maximum = m; height = h })) (node_image (join false l r) m h) refl refl
+node_of_image dummy m h = record_read (node (record { kind = dummy; maximum = m; height = h })) (node_image dummy m h) refl refl
 
 -- every record is that of its image
 pub record_of_image : (r : Record) → record_of (record_image r) ≡ r
@@ -59,11 +59,11 @@ unfolding record_image reading literal_word
 record_of_image (node n) = node_of_image n.kind n.maximum n.height
 record_of_image (output o) =
     let half : 2 * o.number / 2 ≡ o.number = omega arith in
-    record_of (output o) (record_image (output o))
+    record_read (output o) (record_image (output o))
     (ap (λ (k : ℕ). output (record { node = o.node; value = o.value; number = k })) half)
     refl
-record_of_image (waiting e) = record_of (waiting e) (record_image (waiting e)) refl refl
-record_of_image unknown = record_of unknown (record_image unknown) refl refl
+record_of_image (waiting e) = record_read (waiting e) (record_image (waiting e)) refl refl
+record_of_image unknown = record_read unknown (record_image unknown) refl refl
 
 -- a record has eight words
 node_image_length : (k : Kind) (m h : ℕ) → length (node_image k m h) ≡ record_words
