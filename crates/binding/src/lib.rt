@@ -1,4 +1,5 @@
 // The public calls under C names, over lent slices. Each is the call of its name, demands nothing and takes the time of that call.
+#![tactic(auto)]
 ghost use Rattle.std.specs.Prelude.{◌≡◌, length};
 ghost use Rattle.rules.specs.Refusals.{answer_number};
 ghost use Rattle.rules.specs.Start.{start};

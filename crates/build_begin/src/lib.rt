@@ -1,5 +1,6 @@
 // Where an encode begins: the nodes and outputs of a state, with what waits seen as free words; and what a build or a refinement
 // hands on.
+#![tactic(auto)]
 ghost use Rattle.std.specs.Prelude.{◌≡◌, true, not, List, ◌++◌, map, length};
 ghost use Rattle.rules.specs.Records.{Record, Entry, waiting, waits};
 ghost use Rattle.laws.specs.Lists.Facts.{All};

@@ -1,4 +1,5 @@
 // A tower of buckets: what a first build and a refinement have in common.
+#![tactic(auto)]
 ghost use Rattle.std.specs.Prelude.{◌≡◌, List, ◌++◌, map, ℕ, ◌+◌, ◌-◌, ◌^◌, ◌≤◌, ◌<◌, length, take, ℤ};
 ghost use Rattle.rules.specs.Lists.{sort};
 ghost use Rattle.rules.specs.Records.{Record, Entry, waiting};

@@ -4,6 +4,7 @@
 // words. The sum runs through the words in order, h = (16777619 h + w) mod 4294967291 with w the word of the literal, 0 at a clause's
 // end. A direct computation of the totalizer rule on a tree of objects, which shares nothing with this code, gives the same counts
 // and the same sum; the count of clauses is also that of 2^(7-j) ((2^j + 1)^2 - 1) added for j from 0 to 7.
+#![tactic(auto)]
 ghost use Rattle.std.specs.Prelude.{◌≡◌, ◌<◌, length};
 
 use libc::STDOUT_FILENO;

@@ -1,4 +1,5 @@
 // Walks over the outputs and the waiting entries of a store. The promises speak of words that store records.
+#![tactic(auto)]
 ghost use Rattle.std.specs.Prelude.{◌≡◌, List, ◌+◌, ◌<◌, get_or, drop};
 ghost use Rattle.rules.specs.Records.{Record, unknown};
 ghost use Rattle.rules.specs.WellFormed.{outputs_rise, outputs_distinct};

@@ -1,4 +1,5 @@
 // One pass over the records of a store: most clauses of well formed. The promises speak of words that store records.
+#![tactic(auto)]
 ghost use Rattle.std.specs.Prelude.{◌≡◌, ◌&&◌, List, ◌≤◌, ◌<◌, max, eqb, get_or};
 ghost use Rattle.rules.specs.Records.{leaf, join, Record, unknown, node_at, word_literal};
 ghost use Rattle.rules.specs.WellFormed.{spares_buckets};

@@ -1,4 +1,5 @@
 // What an encode has to do: whether something is asked, which case it is, and whether anything is left to do.
+#![tactic(auto)]
 ghost use Rattle.std.specs.Prelude.{◌≡◌, List, ℕ, ◌≤◌, ◌<◌, ℤ};
 ghost use Rattle.rules.specs.Build.{build_of};
 ghost use Rattle.rules.specs.Encode.{nothing_asked, encode, nothing_done};

@@ -1,4 +1,5 @@
 // What an encode appends last: the root outputs of its range, then what waits.
+#![tactic(auto)]
 ghost use Rattle.std.specs.Prelude.{◌≡◌, List, ◌+◌, ◌≤◌, ◌<◌, min, ℤ};
 ghost use Rattle.rules.specs.Lists.{rising};
 ghost use Rattle.rules.specs.Records.{Record};

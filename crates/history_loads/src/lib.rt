@@ -1,6 +1,7 @@
 // What an answer means, on standard output: the role of each of its literals, and which assignments of the inputs are admitted by
 // clauses and answer. A clause has at most one literal that is neither negated nor an input's, so the assignment with the fewest
 // other variables true decides.
+#![tactic(auto)]
 use libc::STDOUT_FILENO;
 use rules::State;
 

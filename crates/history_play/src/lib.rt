@@ -22,6 +22,7 @@
 // words, of the others, of the work slice. After enforce: the refusal number or 0, how many literals, their words, count and
 // digest of a scratch of 20 that held 7, whose first SCRATCH words were lent. A clause word is printed and digested as its
 // literal's word. A digest goes through the words in order: h = (16777619 h + w) mod 4294967291, from 0.
+#![tactic(auto)]
 ghost use Rattle.std.specs.Prelude.{◌≡◌, ◌<◌, ◌≤◌, length};
 
 use libc::{STDIN_FILENO, STDOUT_FILENO};

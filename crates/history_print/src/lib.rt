@@ -1,4 +1,5 @@
 // Numbers, words, states and digests on standard output.
+#![tactic(auto)]
 use libc::STDOUT_FILENO;
 use rules::{Answer, State};
 

@@ -1,4 +1,5 @@
 // Numbers in a line of text.
+#![tactic(auto)]
 
 // The byte at i, 0 past the end. Constant time.
 pub fn byte(line: &[u8], i: usize) -> u8 {

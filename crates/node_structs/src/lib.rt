@@ -1,4 +1,5 @@
 // Link and maximum of the store's nodes, copied into a lent slice of structs and read there.
+#![tactic(auto)]
 ghost use Rattle.std.specs.Prelude.{◌≡◌, ◌/◌, min};
 ghost use Rattle.rules.specs.Totalizer.{counts};
 ghost use Rattle.node_structs.specs.Nodes.{node_in, read_node, Copies, former_half_in};

@@ -1,5 +1,7 @@
 // Numbers and literals. Signed words are read, compared and written here alone; the other crates pass a literal's word,
 // twice its variable, one more for a negation.
+#![tactic(auto)]
+
 ghost use Rattle.std.specs.Prelude.{◌≡◌, ◌<◌, ◌≤◌, ◌%◌, ◌^◌, eqb, neg_ℤ, nat_abs};
 ghost use Rattle.rules.specs.Numbers.{lawful};
 ghost use Rattle.rules.specs.Digits.{digits, top_bit, power_of_two};

@@ -1,5 +1,6 @@
 // Records in lent words: eight words to a record, for slices of any length. A read past the end is 0 and a write past the end does
 // nothing.
+#![tactic(auto)]
 ghost use Rattle.std.specs.Prelude.{◌≡◌, List, ◌/◌, length, get_or};
 ghost use Rattle.rules.specs.Records.{Record, unknown, node_at, left_link, right_link, waits};
 ghost use Rattle.rules.specs.WellFormed.{is_leaf, is_dummy};

@@ -1,4 +1,5 @@
 // A record appended, of each kind, where there is room; else the marks come back with the full mark set.
+#![tactic(auto)]
 ghost use Rattle.std.specs.Prelude.{◌≡◌, cond, false, List, ℕ, suc, ◌+◌, ◌≤◌, max, ℤ};
 ghost use Rattle.rules.specs.Records.{Record, waiting, record_image, literal_word, leaf_node, dummy_node};
 ghost use Rattle.rules.specs.Totalizer.{counts, joining, add, take_number};

@@ -1,4 +1,5 @@
 // Old buckets brought up to date in place: each linked, halved, to the one below, its maximum and height by rule.
+#![tactic(auto)]
 ghost use Rattle.std.specs.Prelude.{◌≡◌, List, map, ◌-◌, ◌≤◌, length, take, drop, replicate};
 ghost use Rattle.rules.specs.Records.{Record};
 ghost use Rattle.rules.specs.Refinement.{former_half};

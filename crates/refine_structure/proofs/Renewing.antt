@@ -82,7 +82,7 @@ module _ (bs : List ℕ) (s₀ : List ℕ) (m₀ : Marks) (s : List ℕ) (c : Li
     based : (s' : List ℕ) → length s' ≡ length s → ((i : ℕ) → occurs (i / 8) bs ≡ 0 → get_or s' i 0 ≡ get_or s i 0) → Based bs e (st s' c m₀) n
     based s' long kept =
         let size : length s ≡ length s₀ = r.carries.same_store in
-        let same : drop (8 * n) s ≡ drop (8 * n) s₀ = ap (drop (8 * n)) held.1.Store-is ∙ laid_rest (image_of t.records) s₀ (8 * n) (image_length t.records) in
+        let same : drop (8 * n) s ≡ drop (8 * n) s₀ = ap (drop (8 * n)) held.1.store_is ∙ laid_rest (image_of t.records) s₀ (8 * n) (image_length t.records) in
         let past : (i : ℕ) → get_or (drop (8 * n) s') i 0 ≡ get_or (drop (8 * n) s₀) i 0 = λ i.
         get_or-drop (8 * n) s' i 0 ∙
         (kept (8 * n + i) (occurs_none (λ b. b < n) ((8 * n + i) / 8) bs inside (λ (h : (8 * n + i) / 8 < n). omega arith)) ∙

@@ -1,4 +1,5 @@
 // The pairs of an output and their clauses: counted, asked through a halving, written.
+#![tactic(auto)]
 ghost use Rattle.std.specs.Prelude.{◌≡◌, ℕ, suc, ◌+◌, ◌-◌, ◌<◌, ◌≤◌, min, pos};
 ghost use Rattle.rules.specs.Records.{literal_word};
 ghost use Rattle.rules.specs.Totalizer.{asks, pairs_from, clause, write, take_number};
