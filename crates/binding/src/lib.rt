@@ -1,5 +1,6 @@
 // The public calls under C names, over lent slices. Each is the call of its name, demands nothing and takes the time of that call.
 #![tactic(auto)]
+
 ghost use Rattle.std.specs.Prelude.{◌≡◌, length};
 ghost use Rattle.rules.specs.Refusals.{answer_number};
 ghost use Rattle.rules.specs.Start.{start};
@@ -13,7 +14,7 @@ use rules::{Answer, Coarse, Maximum, Precision, State};
 
 // What start and set_precision answer: the refusal number, else 0, and the state.
 #[repr(C)]
-#[derive(Drop)]
+#[derive(Clone, Copy)]
 pub struct Answered {
     pub refusal: u32,
     pub state: State,
@@ -21,7 +22,7 @@ pub struct Answered {
 
 // What encode_ub_change answers; the totals are those of the state.
 #[repr(C)]
-#[derive(Drop)]
+#[derive(Clone, Copy)]
 pub struct Encoded {
     pub refusal: u32,
     pub variables: u32,
@@ -31,7 +32,7 @@ pub struct Encoded {
 
 // What a reading call answers: the refusal number, else 0, and the value, 0 where it refuses.
 #[repr(C)]
-#[derive(Drop)]
+#[derive(Clone, Copy)]
 pub struct Value {
     pub refusal: u32,
     pub value: u64,

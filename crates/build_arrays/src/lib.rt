@@ -1,5 +1,6 @@
 // The two arrays of a state, filled from the front: tares, lowest power first, and buckets, root first.
 #![tactic(auto)]
+
 ghost use Rattle.std.specs.Prelude.{◌≡◌, List, ◌++◌, ℕ, ◌+◌, ◌≤◌, ◌<◌, length, take, drop};
 ghost use Rattle.rules.specs.Lists.{rising, padded};
 

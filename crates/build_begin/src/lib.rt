@@ -1,6 +1,7 @@
 // Where an encode begins: the nodes and outputs of a state, with what waits seen as free words; and what a build or a refinement
 // hands on.
 #![tactic(auto)]
+
 ghost use Rattle.std.specs.Prelude.{◌≡◌, true, not, List, ◌++◌, map, length};
 ghost use Rattle.rules.specs.Records.{Record, Entry, waiting, waits};
 ghost use Rattle.laws.specs.Lists.Facts.{All};
@@ -11,7 +12,7 @@ use records::Marks;
 use rules::State;
 
 // The marks after a build or a refinement, where its queue begins in the work words, its tares and its buckets.
-#[derive(Drop)]
+#[derive(Clone, Copy)]
 pub struct Structure {
     pub marks: Marks,
     pub head: usize,

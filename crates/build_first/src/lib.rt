@@ -1,5 +1,6 @@
 // The first build.
 #![tactic(auto)]
+
 ghost use Rattle.std.specs.Prelude.{◌≡◌, List, ◌≤◌, length, ℤ};
 ghost use Rattle.rules.specs.Build.{build_of};
 ghost use Rattle.rules.specs.Buckets.{build_structure};

@@ -1,5 +1,6 @@
 // A tower of buckets: what a first build and a refinement have in common.
 #![tactic(auto)]
+
 ghost use Rattle.std.specs.Prelude.{◌≡◌, List, ◌++◌, map, ℕ, ◌+◌, ◌-◌, ◌^◌, ◌≤◌, ◌<◌, length, take, ℤ};
 ghost use Rattle.rules.specs.Lists.{sort};
 ghost use Rattle.rules.specs.Records.{Record, Entry, waiting};
@@ -14,7 +15,7 @@ ghost use Rattle.build_tower.specs.Rule.{tower};
 use records::Marks;
 
 // The marks, where the queue begins, and how many buckets were made.
-#[derive(Drop)]
+#[derive(Clone, Copy)]
 pub struct Segment {
     pub marks: Marks,
     pub head: usize,
@@ -23,7 +24,7 @@ pub struct Segment {
 
 // What a tower is built with: the divisor; its tares, and how many there are; its powers, from `low` to `end` - 1; and how many
 // numbers are taken for new tares.
-#[derive(Drop)]
+#[derive(Clone, Copy)]
 pub struct Plan {
     pub divisor: u64,
     pub tares: [u32; rules::MOST_TARES],

@@ -1,6 +1,7 @@
 // Plays the histories of standard input, as cases_calls does, over buffers with room for the largest: 256 inputs of weight
 // 1,048,575 and falling, built at divisor 1 with one output of the root.
 #![tactic(auto)]
+
 use libc::STDIN_FILENO;
 
 // Every line of the text over these buffers. Grows as the calls do.

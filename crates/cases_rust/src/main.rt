@@ -1,6 +1,7 @@
 // Plays the histories of standard input, whose answers the Rust's own text gave; crates/history_play says how they are written,
 // tests/rust_text/run writes them.
 #![tactic(auto)]
+
 fn main() {
     history_play::play_input();
 }

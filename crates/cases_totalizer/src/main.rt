@@ -5,6 +5,7 @@
 // end. A direct computation of the totalizer rule on a tree of objects, which shares nothing with this code, gives the same counts
 // and the same sum; the count of clauses is also that of 2^(7-j) ((2^j + 1)^2 - 1) added for j from 0 to 7.
 #![tactic(auto)]
+
 ghost use Rattle.std.specs.Prelude.{◌≡◌, ◌<◌, length};
 
 use libc::STDOUT_FILENO;

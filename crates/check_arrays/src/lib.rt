@@ -1,5 +1,6 @@
 // Tests of short lists of numbers: the used slots of a state's arrays. The loops are linear in the list but where it is said.
 #![tactic(auto)]
+
 ghost use Rattle.std.specs.Prelude.{◌≡◌, ◌&&◌, ℕ, ◌≤◌, ◌<◌, ◌-◌, leb, ltb, eqb, length, get_or, take};
 ghost use Rattle.rules.specs.Lists.{all, among, distinct};
 ghost use Rattle.rules.specs.WellFormed.{slots_within, above};

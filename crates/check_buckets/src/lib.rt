@@ -1,5 +1,6 @@
 // Tests of the buckets of a store. The promises speak of words that store records.
 #![tactic(auto)]
+
 ghost use Rattle.std.specs.Prelude.{◌≡◌, List, ◌+◌, ◌<◌, length, get_or, drop};
 ghost use Rattle.rules.specs.Lists.{all};
 ghost use Rattle.rules.specs.Records.{Record, node_at};

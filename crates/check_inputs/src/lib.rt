@@ -1,5 +1,6 @@
 // Walks over the inputs of a store: the first records. The promises speak of words that store records.
 #![tactic(auto)]
+
 ghost use Rattle.std.specs.Prelude.{◌≡◌, List, ℕ, max, leb, ltb, get_or, drop};
 ghost use Rattle.rules.specs.Lists.{all, rising};
 ghost use Rattle.rules.specs.Records.{Record, unknown, node_at};

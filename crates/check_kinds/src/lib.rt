@@ -1,5 +1,6 @@
 // Whether the used words of a store are the image of records. Any words are taken.
 #![tactic(auto)]
+
 ghost use Rattle.std.specs.Prelude.{◌≡◌, ◌≤◌, ◌*◌, length};
 ghost use Rattle.rules.specs.Records.{records_of};
 ghost use Rattle.rules.specs.WellFormed.{kinds_known};

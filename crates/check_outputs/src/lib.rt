@@ -1,5 +1,6 @@
 // Walks over the outputs and the waiting entries of a store. The promises speak of words that store records.
 #![tactic(auto)]
+
 ghost use Rattle.std.specs.Prelude.{◌≡◌, List, ◌+◌, ◌<◌, get_or, drop};
 ghost use Rattle.rules.specs.Records.{Record, unknown};
 ghost use Rattle.rules.specs.WellFormed.{outputs_rise, outputs_distinct};
@@ -16,7 +17,7 @@ pub const MAXIMUM: u32 = 1;
 pub const WEIGHT: u32 = 2;
 
 // What is left of a budget, or that it is overspent.
-#[derive(Drop)]
+#[derive(Clone, Copy)]
 pub struct Budget {
     pub over: bool,
     pub left: u64,

@@ -1,5 +1,6 @@
 // One pass over the records of a store: most clauses of well formed. The promises speak of words that store records.
 #![tactic(auto)]
+
 ghost use Rattle.std.specs.Prelude.{◌≡◌, ◌&&◌, List, ◌≤◌, ◌<◌, max, eqb, get_or};
 ghost use Rattle.rules.specs.Records.{leaf, join, Record, unknown, node_at, word_literal};
 ghost use Rattle.rules.specs.WellFormed.{spares_buckets};
@@ -14,7 +15,7 @@ const MOST_WEIGHT: u32 = rules::MOST_WEIGHT as u32;
 
 // What numbers and weights are compared with: output numbers are at least `low` and below `fresh`, waiting weights below
 // `top`.
-#[derive(Drop)]
+#[derive(Clone, Copy)]
 pub struct Limits {
     pub low: u64,
     pub fresh: u32,

@@ -1,5 +1,6 @@
 // Refusal 12: whether a state and a store are well formed, for any state and any words. No clause word is read.
 #![tactic(auto)]
+
 ghost use Rattle.std.specs.Prelude.{◌≡◌, true, cond, ◌&&◌, List, map, ℕ, ◌*◌, ◌^◌, ◌≤◌, min, eqb, leb, ltb, length};
 ghost use Rattle.rules.specs.Lists.{all, among, rising};
 ghost use Rattle.rules.specs.Records.{Record, Entry, entries};

@@ -1,5 +1,6 @@
 // What an encode has to do: whether something is asked, which case it is, and whether anything is left to do.
 #![tactic(auto)]
+
 ghost use Rattle.std.specs.Prelude.{◌≡◌, List, ℕ, ◌≤◌, ◌<◌, ℤ};
 ghost use Rattle.rules.specs.Build.{build_of};
 ghost use Rattle.rules.specs.Encode.{nothing_asked, encode, nothing_done};
@@ -12,7 +13,7 @@ use rules::State;
 
 // Which case it is, by the largest waiting weight against the set divisor: the first build or a refinement is due where it reaches
 // the divisor; else what stands is left, or, where nothing stands yet, 10 refuses: the divisor is above every weight.
-#[derive(Drop)]
+#[derive(Clone, Copy)]
 pub struct Case {
     pub above: bool,
     pub due: bool,

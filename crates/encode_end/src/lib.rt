@@ -1,6 +1,7 @@
 // How an encode with something to do ends: what it reached is kept, or, where the room ended, everything is put back; all else is
 // set to 0.
 #![tactic(auto)]
+
 ghost use Rattle.std.specs.Prelude.{◌≡◌, ◌*◌, ◌≤◌, length};
 ghost use Rattle.rules.specs.Build.{build_of};
 ghost use Rattle.rules.specs.Encode.{encode_ub_change};

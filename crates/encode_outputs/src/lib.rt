@@ -1,5 +1,6 @@
 // What an encode appends last: the root outputs of its range, then what waits.
 #![tactic(auto)]
+
 ghost use Rattle.std.specs.Prelude.{◌≡◌, List, ◌+◌, ◌≤◌, ◌<◌, min, ℤ};
 ghost use Rattle.rules.specs.Lists.{rising};
 ghost use Rattle.rules.specs.Records.{Record};
@@ -14,21 +15,21 @@ use build_begin::Structure;
 use records::Marks;
 
 // A range of bounds: lo to end - 1.
-#[derive(Drop)]
+#[derive(Clone, Copy)]
 pub struct Range {
     pub lo: u64,
     pub end: u64,
 }
 
 // Outputs of a node: the first value, and how many.
-#[derive(Drop)]
+#[derive(Clone, Copy)]
 pub struct Outputs {
     pub first: u32,
     pub many: usize,
 }
 
 // Where waiting entries stand among words: the node and the weight of the first, how far on those of the next are, and how many.
-#[derive(Drop)]
+#[derive(Clone, Copy)]
 pub struct Places {
     pub node: usize,
     pub weight: usize,

@@ -1,5 +1,6 @@
 // The build that an encode reaches: what stands, the first build or a refinement, then the outputs of the range and what waits.
 #![tactic(auto)]
+
 ghost use Rattle.std.specs.Prelude.{◌≡◌, ◌≤◌, length, take};
 ghost use Rattle.rules.specs.Build.{build_of, largest};
 ghost use Rattle.rules.specs.Encode.{prepared, encode_outputs};

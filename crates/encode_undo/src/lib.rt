@@ -1,6 +1,7 @@
 // What an encode may overwrite, set aside in the work slice before it begins and put back where the room ended: the waiting records,
 // and the records of the buckets.
 #![tactic(auto)]
+
 ghost use Rattle.std.specs.Prelude.{◌≡◌, List, ℕ, ◌+◌, ◌*◌, ◌≤◌, length, take};
 ghost use Rattle.laws.specs.Lists.Facts.{All};
 ghost use Rattle.encode_undo.specs.Copies.{copied, Saves, Restores};

@@ -1,5 +1,6 @@
 // What enforce answers over a build that is well formed: a literal and the tares of the set bits, or a refusal.
 #![tactic(auto)]
+
 ghost use Rattle.std.specs.Prelude.{◌≡◌, ◌&&◌, List, ◌∷◌, ◌++◌, ℕ, ◌+◌, ◌≤◌, ◌<◌, eqb, leb, length, get_or, take, drop, ℤ};
 ghost use Rattle.std.proofs.Math.Option.{some};
 ghost use Rattle.rules.specs.Records.{leaf, node_at, word_literal};
@@ -15,7 +16,7 @@ ghost use Rattle.enforce_answer.specs.Stored.{Stored};
 use rules::MOST_TARES;
 
 // The words of an answer, which are the first of the scratch, and the refusal, 0 where there is none.
-#[derive(Drop)]
+#[derive(Clone, Copy)]
 pub struct Answered {
     pub count: usize,
     pub refusal: u32,

@@ -2,12 +2,13 @@
 // clauses and answer. A clause has at most one literal that is neither negated nor an input's, so the assignment with the fewest
 // other variables true decides.
 #![tactic(auto)]
+
 use libc::STDOUT_FILENO;
 use rules::State;
 
 // What a pass over clauses has come to: whether a literal of the clause at hand holds, which one may be made true, 0 for none;
 // whether a variable was made true, whether a clause cannot be met.
-#[derive(Drop)]
+#[derive(Clone, Copy)]
 struct Seen {
     met: bool,
     free: u32,

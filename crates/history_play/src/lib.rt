@@ -23,13 +23,14 @@
 // digest of a scratch of 20 that held 7, whose first SCRATCH words were lent. A clause word is printed and digested as its
 // literal's word. A digest goes through the words in order: h = (16777619 h + w) mod 4294967291, from 0.
 #![tactic(auto)]
+
 ghost use Rattle.std.specs.Prelude.{◌≡◌, ◌<◌, ◌≤◌, length};
 
 use libc::{STDIN_FILENO, STDOUT_FILENO};
 use rules::{Coarse, Maximum, Precision, State};
 
 // What a history has come to: the state, how many literals and weights were named, how many words are lent.
-#[derive(Drop)]
+#[derive(Clone, Copy)]
 struct World {
     state: State,
     literals: usize,

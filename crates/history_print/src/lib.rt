@@ -1,5 +1,6 @@
 // Numbers, words, states and digests on standard output.
 #![tactic(auto)]
+
 use libc::STDOUT_FILENO;
 use rules::{Answer, State};
 

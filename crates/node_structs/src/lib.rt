@@ -1,11 +1,12 @@
 // Link and maximum of the store's nodes, copied into a lent slice of structs and read there.
 #![tactic(auto)]
+
 ghost use Rattle.std.specs.Prelude.{◌≡◌, ◌/◌, min};
 ghost use Rattle.rules.specs.Totalizer.{counts};
 ghost use Rattle.node_structs.specs.Nodes.{node_in, read_node, Copies, former_half_in};
 
 // The right link of a node, 0 where it is no join, and its maximum.
-#[derive(Drop)]
+#[derive(Clone, Copy)]
 pub struct Node {
     pub link: u32,
     pub maximum: u32,

@@ -1,5 +1,6 @@
 // The answers of the precision calls over a build that is well formed: the next divisor, a coarse bound, a divisor set.
 #![tactic(auto)]
+
 ghost use Rattle.std.specs.Prelude.{◌≡◌, cond, not, ◌&&◌, List, [], ◌∷◌, ◌≤◌, ◌^◌, eqb, ltb};
 ghost use Rattle.rules.specs.Numbers.{divisor_of};
 ghost use Rattle.rules.specs.Digits.{top_bit};

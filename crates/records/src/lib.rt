@@ -1,6 +1,7 @@
 // Records in lent words: eight words to a record, for slices of any length. A read past the end is 0 and a write past the end does
 // nothing.
 #![tactic(auto)]
+
 ghost use Rattle.std.specs.Prelude.{◌≡◌, List, ◌/◌, length, get_or};
 ghost use Rattle.rules.specs.Records.{Record, unknown, node_at, left_link, right_link, waits};
 ghost use Rattle.rules.specs.WellFormed.{is_leaf, is_dummy};
@@ -83,7 +84,7 @@ pub const MOST_PLACE: usize = u32::MAX as usize;
 
 // What of the lent memory is used, and whether it was too little: records of the store, words of the clause buffer, the
 // next fresh number, clauses in all.
-#[derive(Drop)]
+#[derive(Clone, Copy)]
 pub struct Marks {
     pub records: usize,
     pub words: usize,
@@ -93,7 +94,7 @@ pub struct Marks {
 }
 
 // The words of a record by their places; the last two are 0. What a, b and c hold is said with each kind.
-#[derive(Drop)]
+#[derive(Clone, Copy)]
 pub struct Fields {
     pub kind: u32,
     pub a: u32,

@@ -1,5 +1,6 @@
 // A record appended, of each kind, where there is room; else the marks come back with the full mark set.
 #![tactic(auto)]
+
 ghost use Rattle.std.specs.Prelude.{◌≡◌, cond, false, List, ℕ, suc, ◌+◌, ◌≤◌, max, ℤ};
 ghost use Rattle.rules.specs.Records.{Record, waiting, record_image, literal_word, leaf_node, dummy_node};
 ghost use Rattle.rules.specs.Totalizer.{counts, joining, add, take_number};
@@ -13,7 +14,7 @@ use records::{Fields, Marks};
 const MOST_FRESH: u64 = rules::MOST_FRESH as u64;
 
 // A record's place and the marks after it; the place is right where there was room.
-#[derive(Drop)]
+#[derive(Clone, Copy)]
 pub struct Made {
     pub node: u32,
     pub marks: Marks,

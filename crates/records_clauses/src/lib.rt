@@ -1,6 +1,7 @@
 // Clauses in lent words: a clause of two sides and an output, closed by 0, where there is room; else the marks come back with the
 // full mark set.
 #![tactic(auto)]
+
 ghost use Rattle.std.specs.Prelude.{◌≡◌, List, ℕ, length};
 ghost use Rattle.records.specs.Carries.{st, Steps};
 ghost use Rattle.records_clauses.specs.Clauses.{side_of, buf, push, push_side, push_clause, more_of, with_clause, clause_of};

@@ -1,5 +1,6 @@
 // What waits among the records: whether something does, and the largest weight.
 #![tactic(auto)]
+
 ghost use Rattle.std.specs.Prelude.{◌≡◌, List, max};
 ghost use Rattle.rules.specs.Records.{Record, entries};
 ghost use Rattle.rules.specs.Build.{largest, some_wait};

@@ -1,5 +1,6 @@
 // Lent words of any length: read, written, zeroed. A read past the end is 0 and a write past the end does nothing.
 #![tactic(auto)]
+
 ghost use Rattle.std.specs.Prelude.{◌≡◌, length, take, pos};
 ghost use Rattle.rules.specs.Lists.{padded};
 ghost use Rattle.records_words.specs.Words.{word_at, put_word};

@@ -1,5 +1,6 @@
 // Old buckets brought up to date in place: each linked, halved, to the one below, its maximum and height by rule.
 #![tactic(auto)]
+
 ghost use Rattle.std.specs.Prelude.{◌≡◌, List, map, ◌-◌, ◌≤◌, length, take, drop, replicate};
 ghost use Rattle.rules.specs.Records.{Record};
 ghost use Rattle.rules.specs.Refinement.{former_half};
@@ -11,7 +12,7 @@ ghost use Rattle.refine_links.specs.Patched.{with_right, bucket_words};
 use records::Fields;
 
 // What the record of a bucket holds: its right side, the bucket below or a dummy, stands halved.
-#[derive(Drop)]
+#[derive(Clone, Copy)]
 pub struct Bucket {
     pub left: u32,
     pub right: u32,

@@ -1,6 +1,7 @@
 // The further clauses of outputs that were defined before old buckets were linked anew. Every promise is the rule itself,
 // carried out as far as there is room.
 #![tactic(auto)]
+
 ghost use Rattle.std.specs.Prelude.{◌≡◌, List, map, reverse, ◌≤◌, length, take};
 ghost use Rattle.rules.specs.Lists.{in_turn};
 ghost use Rattle.rules.specs.Records.{Record, outputs};

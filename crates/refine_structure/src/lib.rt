@@ -1,5 +1,6 @@
 // Refinement: new lower buckets, the old ones linked over them in place, and the outputs that were defined earlier extended.
 #![tactic(auto)]
+
 ghost use Rattle.std.specs.Prelude.{◌≡◌, List, ◌++◌, ℕ, ◌+◌, ◌^◌, ◌≤◌, ◌<◌, length, get_or, take, ℤ};
 ghost use Rattle.rules.specs.Lists.{rising, padded};
 ghost use Rattle.rules.specs.Digits.{top_bit};

@@ -1,5 +1,6 @@
 // What start refuses, and the combined list that the check of its lines hands back.
 #![tactic(auto)]
+
 ghost use Rattle.std.specs.Prelude.{◌≡◌, true, not, List, [], ℕ, ◌+◌, ◌≤◌, ◌<◌, leb, ltb, nat_abs, length, get_or, replicate};
 ghost use Rattle.rules.specs.Lists.{all};
 ghost use Rattle.rules.specs.Numbers.{lawful, lawful_weight};

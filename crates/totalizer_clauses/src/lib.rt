@@ -1,5 +1,6 @@
 // The pairs of an output and their clauses: counted, asked through a halving, written.
 #![tactic(auto)]
+
 ghost use Rattle.std.specs.Prelude.{◌≡◌, ℕ, suc, ◌+◌, ◌-◌, ◌<◌, ◌≤◌, min, pos};
 ghost use Rattle.rules.specs.Records.{literal_word};
 ghost use Rattle.rules.specs.Totalizer.{asks, pairs_from, clause, write, take_number};
@@ -51,7 +52,7 @@ fn at_most(x: usize, y: u32) -> usize
 }
 
 // Pairs that add to a value: the first a, and how many.
-#[derive(Drop)]
+#[derive(Clone, Copy)]
 pub struct Pairs {
     pub lo: u32,
     pub many: usize,

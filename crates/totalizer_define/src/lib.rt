@@ -1,6 +1,7 @@
 // Output definition over lent records: an output asks its connections and a connection asks its node. Every promise is the
 // rule itself, carried out as far as there is room.
 #![tactic(auto)]
+
 ghost use Rattle.std.specs.Prelude.{◌≡◌, ◌+◌, ◌-◌, ◌<◌, ◌≤◌, pos};
 ghost use Rattle.rules.specs.Lists.{in_turn, rising};
 ghost use Rattle.rules.specs.Records.{Output, literal_word};

@@ -1,6 +1,7 @@
 // Finding outputs: the number of an output of a node, its literal, and what it adds to a clause. The promises speak of
 // words that store records; what is answered over other words is not said.
 #![tactic(auto)]
+
 ghost use Rattle.std.specs.Prelude.{◌≡◌, List, pos};
 ghost use Rattle.rules.specs.Records.{Record, literal_word, node_at};
 ghost use Rattle.rules.specs.Totalizer.{number_of, literal_of, side};

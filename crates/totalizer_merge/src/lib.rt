@@ -1,5 +1,6 @@
 // The balanced merge of a run of nodes.
 #![tactic(auto)]
+
 ghost use Rattle.std.specs.Prelude.{List, ℤ};
 ghost use Rattle.rules.specs.Totalizer.{merge};
 ghost use Rattle.records.specs.Carries.{st, Makes, on_records};

@@ -1,5 +1,6 @@
 // encode_ub_change: the first build or a refinement where it is due, and the outputs of a range.
 #![tactic(auto)]
+
 ghost use Rattle.std.specs.Prelude.{◌≡◌};
 ghost use Rattle.rules.specs.Encode.{encode_ub_change};
 

@@ -1,5 +1,6 @@
 // Enforce: the literals to assume so that a bound holds.
 #![tactic(auto)]
+
 ghost use Rattle.std.specs.Prelude.{◌≡◌, length};
 ghost use Rattle.rules.specs.Enforce.{enforce_ub};
 

@@ -1,5 +1,6 @@
 // The reading calls over a build: its precision and its coarse bounds. Each tests first that state and store are well formed.
 #![tactic(auto)]
+
 ghost use Rattle.std.specs.Prelude.{◌≡◌};
 ghost use Rattle.rules.specs.Precision.{set_precision, next_precision, is_max_precision};
 ghost use Rattle.rules.specs.Coarse.{coarse_ub};

@@ -1,5 +1,6 @@
 // Start: a build over lent words, or a refusal that writes nothing.
 #![tactic(auto)]
+
 ghost use Rattle.std.specs.Prelude.{◌≡◌, true, List, [], map, ℕ, ◌≤◌, max, length, ℤ, pos};
 ghost use Rattle.rules.specs.Lists.{all, total, padded};
 ghost use Rattle.rules.specs.Numbers.{lawful_weight};

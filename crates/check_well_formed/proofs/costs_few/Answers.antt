@@ -1,0 +1,6 @@
+-- `costs_few` asks whether the budget was overspent.
+use Rattle.check_well_formed.proofs.Ways.{few_is}
+use Rattle.check_well_formed.proofs.costs_few.Goals as goal
+
+pub returns : goal.returns
+returns c = λ rs h. few_is _ _ _ (c.spent-left.ensures rs h)

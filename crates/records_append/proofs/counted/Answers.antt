@@ -1,0 +1,13 @@
+-- `counted` halves behind a halving.
+use mathlib.Core.Path.{sym, ap}
+use mathlib.Core.Bool.{Bool}
+use Rattle.rules.specs.Totalizer.{counts}
+use Rattle.records_append.proofs.counted.Goals as goal
+
+pub returns-then-half : goal.returns-then-half
+unfolding counts
+returns-then-half c = sym (ap (λ (h : Bool). counts h c.args.x) c.if-half.true)
+
+pub returns : goal.returns
+unfolding counts
+returns c = sym (ap (λ (h : Bool). counts h c.args.x) c.if-half.false)

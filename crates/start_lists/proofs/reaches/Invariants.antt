@@ -1,0 +1,14 @@
+-- `reaches` stops at the first variable that is not below.
+use mathlib.Core.Path.{◌≡◌}
+use Prim.Native.Nat.{◌-◌}
+use lib.ListN.{length, drop}
+use Rattle.rules.specs.Lists.{all}
+use Rattle.start_lists.specs.Literals.{words}
+use Rattle.start_lists.proofs.Order.{Below}
+use Rattle.start_lists.proofs.reaches.Given as goal
+
+abbrev pub invariant-loop-i : goal.invariant-loop-i
+invariant-loop-i l = all (Below l.first) (drop l.i (words l.lits)) ≡ all (Below l.first) (words l.lits)
+
+abbrev pub decreases-loop-i : goal.decreases-loop-i
+decreases-loop-i l = length l.lits - l.i

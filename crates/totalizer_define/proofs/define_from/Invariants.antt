@@ -1,0 +1,15 @@
+-- `define_from` goes through the values: those that are left, defined from here, are all of them.
+use mathlib.Core.Path.{◌≡◌}
+use Prim.Native.Nat.{◌+◌}
+use lib.ListN.{length}
+use Rattle.rules.specs.Lists.{in_turn, rising}
+use Rattle.rules.specs.Totalizer.{define_output}
+use Rattle.records.specs.Carries.{st}
+use Rattle.records.proofs.Step.{Rest}
+use Rattle.totalizer_define.proofs.define_from.Given as goal
+
+abbrev pub invariant-loop-k : goal.invariant-loop-k
+invariant-loop-k l = Rest (st l.initial.s l.initial.c l.initial.n) (st l.s l.c l.n) (λ t. in_turn (λ t l.v. define_output t l.node l.v) t (rising l.many l.first)) (λ t. in_turn (λ t l.v. define_output t l.node l.v) t (rising l.k l.v)) × (l.v + l.k ≡ l.first + l.many) × (length l.s ≡ length l.initial.s) × (length l.c ≡ length l.initial.c)
+
+abbrev pub decreases-loop-k : goal.decreases-loop-k
+decreases-loop-k l = l.k
