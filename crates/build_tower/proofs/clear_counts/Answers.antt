@@ -15,7 +15,7 @@ loop-k-preserved c =
     let put = c.put in
     let loop-test = c.loop-k-test in
     let loop = c.loop-k in
-    (clear_turn c.args.work.now _ _ _ loop-test.true c.requires loop.invariant.1 loop.invariant.0 put.ensures, put.auto.0 ∙ loop.invariant.1, omega (arith, loop-test.true))
+    (clear_turn c.args.work.now _ _ _ loop-test.true c.requires loop.invariant.1 loop.invariant.0 put.ensures, put.auto.s ∙ loop.invariant.1, omega (arith, loop-test.true))
 
 pub shape_of-work : goal.shape_of-work
 shape_of-work c = c.loop-k.invariant.1

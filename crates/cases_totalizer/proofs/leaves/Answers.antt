@@ -9,7 +9,7 @@ loop-i-init c = (omega arith, refl, refl)
 pub loop-i-preserved : goal.loop-i-preserved
 loop-i-preserved c =
     let loop = c.loop-i in
-    (omega arith, c.leaf-leaf.auto.0 ∙ loop.invariant.1, c.put.auto.0 ∙ loop.invariant.2)
+    (omega arith, c.leaf-leaf.auto.s ∙ loop.invariant.1, c.put.auto.s ∙ loop.invariant.2)
 
 pub shape_of-s : goal.shape_of-s
 shape_of-s c = c.loop-i.invariant.1

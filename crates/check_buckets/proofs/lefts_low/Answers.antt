@@ -11,11 +11,11 @@ loop-j-init c = (λ rs h. refl, omega arith)
 
 pub returns-then-not-left_low : goal.returns-then-not-left_low
 returns-then-not-left_low c =
-    λ rs h. lefts_stop rs _ _ _ (c.loop-j.invariant.0 rs h) c.loop-j-test.true (sym (c.left_low.ensures rs h) ∙ not-true _ c.if-not-left_low.true)
+    λ rs h. lefts_stop rs _ _ _ (c.loop-j.invariant.0 rs h) c.loop-j-test.true (sym (c.left_low.ensures rs h) ∙ c.if-not-left_low.true)
 
 pub loop-j-preserved : goal.loop-j-preserved
 loop-j-preserved c =
-    (λ rs h. lefts_on rs _ _ _ (c.loop-j.invariant.0 rs h) c.loop-j-test.true (sym (c.left_low.ensures rs h) ∙ not-false _ c.if-not-left_low.false), omega arith)
+    (λ rs h. lefts_on rs _ _ _ (c.loop-j.invariant.0 rs h) c.loop-j-test.true (sym (c.left_low.ensures rs h) ∙ c.if-not-left_low.false), omega arith)
 
 pub returns : goal.returns
 returns c = λ rs h. lefts_end rs _ _ _ (c.loop-j.invariant.0 rs h) c.loop-j-test.false

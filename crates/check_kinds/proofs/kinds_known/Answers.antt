@@ -12,11 +12,11 @@ loop-i-init c = (λ h. known_start _ _ h, omega arith)
 
 pub returns-then-not-known_at : goal.returns-then-not-known_at
 returns-then-not-known_at c =
-    λ h. walk_stop _ _ _ _ c.loop-i-test.true (sym c.known_at.ensures ∙ not-true _ c.if-not-known_at.true) (c.loop-i.invariant.0 h)
+    λ h. walk_stop _ _ _ _ c.loop-i-test.true (sym c.known_at.ensures ∙ c.if-not-known_at.true) (c.loop-i.invariant.0 h)
 
 pub loop-i-preserved : goal.loop-i-preserved
 loop-i-preserved c =
-    (λ h. walk_on _ _ _ _ c.loop-i-test.true (sym c.known_at.ensures ∙ not-false _ c.if-not-known_at.false) (c.loop-i.invariant.0 h), omega arith)
+    (λ h. walk_on _ _ _ _ c.loop-i-test.true (sym c.known_at.ensures ∙ c.if-not-known_at.false) (c.loop-i.invariant.0 h), omega arith)
 
 pub returns : goal.returns
 returns c = λ h. walk_end _ _ _ _ c.loop-i-test.false (c.loop-i.invariant.0 h)

@@ -14,12 +14,12 @@ loop-i-init c = (λ rs h. refl, omega arith)
 pub returns-then-not-rises : goal.returns-then-not-rises
 returns-then-not-rises c =
     let loop = c.loop-i in
-    λ rs h. rise_stop rs _ _ _ (loop.invariant.0 rs h) (subst (λ (n : ℕ). loop.i < n) h.count_is c.loop-i-test.true) (sym (c.rises.ensures rs h) ∙ not-true _ c.if-not-rises.true)
+    λ rs h. rise_stop rs _ _ _ (loop.invariant.0 rs h) (subst (λ (n : ℕ). loop.i < n) h.count_is c.loop-i-test.true) (sym (c.rises.ensures rs h) ∙ c.if-not-rises.true)
 
 pub loop-i-preserved : goal.loop-i-preserved
 loop-i-preserved c =
     let loop = c.loop-i in
-    (λ rs h. rise_on rs _ _ _ (loop.invariant.0 rs h) (subst (λ (n : ℕ). loop.i < n) h.count_is c.loop-i-test.true) _ (c.next_low-low.ensures rs h) (sym (c.rises.ensures rs h) ∙ not-false _ c.if-not-rises.false), omega arith)
+    (λ rs h. rise_on rs _ _ _ (loop.invariant.0 rs h) (subst (λ (n : ℕ). loop.i < n) h.count_is c.loop-i-test.true) _ (c.next_low-low.ensures rs h) (sym (c.rises.ensures rs h) ∙ c.if-not-rises.false), omega arith)
 
 pub returns : goal.returns
 returns c =

@@ -12,11 +12,11 @@ loop-i-init c = (λ rs h. right_start rs _ _ _ _ h.count_is, omega arith)
 
 pub returns-then-not-place_right : goal.returns-then-not-place_right
 returns-then-not-place_right c =
-    λ rs h. walk_stop _ _ _ _ c.loop-i-test.true (sym (c.place_right.ensures rs h) ∙ not-true _ c.if-not-place_right.true) (c.loop-i.invariant.0 rs h)
+    λ rs h. walk_stop _ _ _ _ c.loop-i-test.true (sym (c.place_right.ensures rs h) ∙ c.if-not-place_right.true) (c.loop-i.invariant.0 rs h)
 
 pub loop-i-preserved : goal.loop-i-preserved
 loop-i-preserved c =
-    (λ rs h. walk_on _ _ _ _ c.loop-i-test.true (sym (c.place_right.ensures rs h) ∙ not-false _ c.if-not-place_right.false) (c.loop-i.invariant.0 rs h), omega arith)
+    (λ rs h. walk_on _ _ _ _ c.loop-i-test.true (sym (c.place_right.ensures rs h) ∙ c.if-not-place_right.false) (c.loop-i.invariant.0 rs h), omega arith)
 
 pub returns : goal.returns
 returns c = λ rs h. walk_end _ _ _ _ c.loop-i-test.false (c.loop-i.invariant.0 rs h)

@@ -12,10 +12,10 @@ pub returns-then-not-slots_within : goal.returns-then-not-slots_within
 unfolding tares_within buckets_within tares_of buckets_of
 returns-then-not-slots_within c =
     let args = c.args in
-    fail_here _ _ (sym (slots_of args.s.tares args.s.tares_used 19 _ (search rules) c.slots_within.ensures) ∙ not-true _ c.if-not-slots_within.true)
+    fail_here _ _ (sym (slots_of args.s.tares args.s.tares_used 19 _ (search rules) c.slots_within.ensures) ∙ c.if-not-slots_within.true)
 
 pub returns : goal.returns
 unfolding tares_within buckets_within tares_of buckets_of
 returns c =
     let args = c.args in
-    pass_here _ _ _ (sym (slots_of args.s.tares args.s.tares_used 19 _ (search rules) c.slots_within.ensures) ∙ not-false _ c.if-not-slots_within.false) (slots_of args.s.buckets args.s.buckets_used 20 _ (search rules) c.slots_within-2.ensures)
+    pass_here _ _ _ (sym (slots_of args.s.tares args.s.tares_used 19 _ (search rules) c.slots_within.ensures) ∙ c.if-not-slots_within.false) (slots_of args.s.buckets args.s.buckets_used 20 _ (search rules) c.slots_within-2.ensures)

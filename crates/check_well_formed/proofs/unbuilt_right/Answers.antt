@@ -22,9 +22,9 @@ returns-then-s-ne0-2 c =
 pub returns-then-not-inputs_wait : goal.returns-then-not-inputs_wait
 unfolding unbuilt_right hold all unbuilt_clauses no_tare no_bucket inputs_wait weights_add
 returns-then-not-inputs_wait c =
-    λ rs h w. pass_here _ _ _ (eq-eqb _ 0 c.if-s-ne0.false) (pass_here _ _ _ (eq-eqb _ 0 c.if-s-ne0-2.false) (fail_here _ _ (sym (c.inputs_wait.ensures rs h w) ∙ not-true _ c.if-not-inputs_wait.true)))
+    λ rs h w. pass_here _ _ _ (eq-eqb _ 0 c.if-s-ne0.false) (pass_here _ _ _ (eq-eqb _ 0 c.if-s-ne0-2.false) (fail_here _ _ (sym (c.inputs_wait.ensures rs h w) ∙ c.if-not-inputs_wait.true)))
 
 pub returns : goal.returns
 unfolding unbuilt_right hold all unbuilt_clauses no_tare no_bucket inputs_wait weights_add
 returns c =
-    λ rs h w. pass_here _ _ _ (eq-eqb _ 0 c.if-s-ne0.false) (pass_here _ _ _ (eq-eqb _ 0 c.if-s-ne0-2.false) (pass_here _ _ _ (sym (c.inputs_wait.ensures rs h w) ∙ not-false _ c.if-not-inputs_wait.false) (pass_last _ _ (c.costs.ensures rs h ∙ ap (λ (n : ℕ). eqb n c.args.s.sum) (weights_is rs)))))
+    λ rs h w. pass_here _ _ _ (eq-eqb _ 0 c.if-s-ne0.false) (pass_here _ _ _ (eq-eqb _ 0 c.if-s-ne0-2.false) (pass_here _ _ _ (sym (c.inputs_wait.ensures rs h w) ∙ c.if-not-inputs_wait.false) (pass_last _ _ (c.costs.ensures rs h ∙ ap (λ (n : ℕ). eqb n c.args.s.sum) (weights_is rs)))))

@@ -32,7 +32,7 @@ settled-requires c =
     omega (arith, room.within, c.put_back.ensures.1)
 
 pub shape_of-work-then-m : goal.shape_of-work-then-m
-shape_of-work-then-m c = c.settled.auto.1.1.1.1.0 ∙ (c.reach-z.ensures.1 ∙ c.set_aside.ensures.1)
+shape_of-work-then-m c = c.settled.auto.work ∙ (c.reach-z.ensures.1 ∙ c.set_aside.ensures.1)
 
 pub returns-then-m : goal.returns-then-m
 returns-then-m c =
@@ -58,7 +58,7 @@ settled-requires-2 c =
     records_room _ pre.0 _ (begins_at _ pre.0 _ c-waiting.ensures) reach.result reach.new.1.0 reach.new.1.1.0 reach.ensures.0 c.if-m.false _ _ c.state_after-state.ensures
 
 pub shape_of-work : goal.shape_of-work
-shape_of-work c = c.settled-2.auto.1.1.1.1.0 ∙ (c.reach-z.ensures.1 ∙ c.set_aside.ensures.1)
+shape_of-work c = c.settled-2.auto.work ∙ (c.reach-z.ensures.1 ∙ c.set_aside.ensures.1)
 
 pub returns : goal.returns
 returns c =

@@ -29,7 +29,7 @@ loop-k-preserved c =
     let loop-test = c.loop-k-test in
     let loop = c.loop-k in
     let pre = c.requires in
-    (λ b. waiting_turn _ _ _ _ _ _ _ _ _ _ _ loop-test.true c.word.ensures c.word-in-loop-k.ensures (waiting.ensures b) (loop.invariant.0 b), omega (arith, loop-test.true, loop.invariant.1, pre), omega (arith, loop-test.true, loop.invariant.2, pre), waiting.auto.0 ∙ loop.invariant.3)
+    (λ b. waiting_turn _ _ _ _ _ _ _ _ _ _ _ loop-test.true c.word.ensures c.word-in-loop-k.ensures (waiting.ensures b) (loop.invariant.0 b), omega (arith, loop-test.true, loop.invariant.1, pre), omega (arith, loop-test.true, loop.invariant.2, pre), waiting.auto.s ∙ loop.invariant.3)
 
 pub shape_of-store : goal.shape_of-store
 shape_of-store c = c.loop-k.invariant.3

@@ -14,7 +14,7 @@ loop-i-preserved c =
     let put = c.put in
     let loop = c.loop-i in
     let pre = c.requires in
-    (copy_turn _ _ _ _ _ _ _ _ _ pre.0 pre.1 c.loop-i-test.true loop.invariant.0 c.word.ensures put.ensures, omega arith, put.auto.0 ∙ loop.invariant.2)
+    (copy_turn _ _ _ _ _ _ _ _ _ pre.0 pre.1 c.loop-i-test.true loop.invariant.0 c.word.ensures put.ensures, omega arith, put.auto.s ∙ loop.invariant.2)
 
 pub shape_of-to : goal.shape_of-to
 shape_of-to c = c.loop-i.invariant.2

@@ -17,4 +17,4 @@ returns c =
     let restore-buckets = c.restore_buckets in
     let args = c.args in
     let pre = c.requires in
-    (back args.s args.store.now _ _ args.work.now args.n pre restore-buckets.ensures copy.ensures, copy.auto.1.1.0 ∙ restore-buckets.auto.0)
+    (back args.s args.store.now _ _ args.work.now args.n pre restore-buckets.ensures copy.ensures, copy.auto.to ∙ restore-buckets.auto.store)

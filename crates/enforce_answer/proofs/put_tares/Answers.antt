@@ -20,7 +20,7 @@ pub loop-i-preserved : goal.loop-i-preserved
 loop-i-preserved c =
     let put-tare = c.put_tare-at in
     let loop = c.loop-i in
-    (back_on _ _ _ _ _ _ _ (used_in _ _ c.requires.0 c.well_formed.1.0.1.0.1 _ c.loop-i-test.true) c.tare.ensures put-tare.ensures loop.invariant.0, omega arith, put-tare.auto.0 ∙ loop.invariant.2)
+    (back_on _ _ _ _ _ _ _ (used_in _ _ c.requires.0 c.well_formed.1.0.1.0.1 _ c.loop-i-test.true) c.tare.ensures put-tare.ensures loop.invariant.0, omega arith, put-tare.auto.scratch ∙ loop.invariant.2)
 
 pub shape_of-scratch : goal.shape_of-scratch
 shape_of-scratch c = c.loop-i.invariant.2

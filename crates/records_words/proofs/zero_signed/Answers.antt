@@ -15,7 +15,7 @@ unfolding put_signed word_literal
 loop-i-preserved c =
     let put_signed = c.put_signed in
     let loop = c.loop-i in
-    (zero_turn (pos 0) _ _ _ _ _ loop.invariant.1 c.loop-i-test.true loop.invariant.3 loop.invariant.0 put_signed.ensures, omega arith, omega arith, put_signed.auto.0 ∙ loop.invariant.3)
+    (zero_turn (pos 0) _ _ _ _ _ loop.invariant.1 c.loop-i-test.true loop.invariant.3 loop.invariant.0 put_signed.ensures, omega arith, omega arith, put_signed.auto.c ∙ loop.invariant.3)
 
 pub shape_of-c : goal.shape_of-c
 shape_of-c c = c.loop-i.invariant.3

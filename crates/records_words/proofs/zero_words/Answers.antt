@@ -15,7 +15,7 @@ unfolding put_word
 loop-i-preserved c =
     let put = c.put in
     let loop = c.loop-i in
-    (zero_turn 0 _ _ _ _ _ loop.invariant.1 c.loop-i-test.true loop.invariant.3 loop.invariant.0 put.ensures, omega arith, omega arith, put.auto.0 ∙ loop.invariant.3)
+    (zero_turn 0 _ _ _ _ _ loop.invariant.1 c.loop-i-test.true loop.invariant.3 loop.invariant.0 put.ensures, omega arith, omega arith, put.auto.s ∙ loop.invariant.3)
 
 pub shape_of-s : goal.shape_of-s
 shape_of-s c = c.loop-i.invariant.3

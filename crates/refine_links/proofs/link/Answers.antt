@@ -14,4 +14,4 @@ returns-then-height-gt-MOST_WORD c =
 pub returns : goal.returns
 returns c =
     let put-bucket = c.put_bucket in
-    link_done _ _ _ _ _ _ _ _ _ _ _ _ c.left-l.ensures c.maximum.ensures c.counted-half.ensures c.maximum-2.ensures c.sum-maximum.ensures c.height.ensures c.height-2.ensures c.above-height.ensures _ put-bucket.auto.0 c.if-maximum-gt-MOST_WORD.false c.if-height-gt-MOST_WORD.false (bucket_put _ _ _ _ _ _ _ _ c.patched.ensures put-bucket.ensures)
+    link_done _ _ _ _ _ _ _ _ _ _ _ _ c.left-l.ensures c.maximum.ensures c.counted-half.ensures c.maximum-2.ensures c.sum-maximum.ensures c.height.ensures c.height-2.ensures c.above-height.ensures _ put-bucket.auto.store c.if-maximum-gt-MOST_WORD.false c.if-height-gt-MOST_WORD.false (bucket_put _ _ _ _ _ _ _ _ c.patched.ensures put-bucket.ensures)

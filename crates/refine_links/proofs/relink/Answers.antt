@@ -9,18 +9,18 @@ pub loop-i-init : goal.loop-i-init
 loop-i-init c = (going_start _ _ _ _ _, omega arith, refl)
 
 pub shape_of-store-then-not-link : goal.shape_of-store-then-not-link
-shape_of-store-then-not-link c = c.link.auto.0 ∙ c.loop-i.invariant.2
+shape_of-store-then-not-link c = c.link.auto.store ∙ c.loop-i.invariant.2
 
 pub returns-then-not-link : goal.returns-then-not-link
 returns-then-not-link c =
     let loop = c.loop-i in
-    relink_over _ _ _ _ _ _ _ (search rules) _ _ _ (omega (arith, c.loop-i-test.true)) loop.invariant.1 (not-true _ c.if-not-link.true) loop.invariant.0 c.link.ensures
+    relink_over _ _ _ _ _ _ _ (search rules) _ _ _ (omega (arith, c.loop-i-test.true)) loop.invariant.1 (c.if-not-link.true) loop.invariant.0 c.link.ensures
 
 pub loop-i-preserved : goal.loop-i-preserved
 loop-i-preserved c =
     let link = c.link in
     let loop = c.loop-i in
-    (relink_turn _ _ _ _ _ _ _ (search rules) _ _ _ (omega (arith, c.loop-i-test.true)) loop.invariant.1 (not-false _ c.if-not-link.false) loop.invariant.0 link.ensures, omega arith, link.auto.0 ∙ loop.invariant.2)
+    (relink_turn _ _ _ _ _ _ _ (search rules) _ _ _ (omega (arith, c.loop-i-test.true)) loop.invariant.1 (c.if-not-link.false) loop.invariant.0 link.ensures, omega arith, link.auto.store ∙ loop.invariant.2)
 
 pub shape_of-store : goal.shape_of-store
 shape_of-store c = c.loop-i.invariant.2

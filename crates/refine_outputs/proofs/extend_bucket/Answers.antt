@@ -11,7 +11,7 @@ pub loop-i-preserved : goal.loop-i-preserved
 loop-i-preserved c =
     let extend-record = c.extend_record-n in
     let loop = c.loop-i in
-    (going_turn _ _ _ _ _ _ _ (omega (arith, c.loop-i-test.true)) extend-record.ensures loop.invariant.0, omega arith, extend-record.auto.0 ∙ loop.invariant.2, extend-record.auto.1.0 ∙ loop.invariant.3)
+    (going_turn _ _ _ _ _ _ _ (omega (arith, c.loop-i-test.true)) extend-record.ensures loop.invariant.0, omega arith, extend-record.auto.store ∙ loop.invariant.2, extend-record.auto.clauses ∙ loop.invariant.3)
 
 pub shape_of-store : goal.shape_of-store
 shape_of-store c = c.loop-i.invariant.2

@@ -7,12 +7,12 @@ pub returns-then-m : goal.returns-then-m
 returns-then-m c = at_stop _ _ _ _ c.if-m.true
 
 pub returns-then-not-is_output : goal.returns-then-not-is_output
-returns-then-not-is_output c = at_none _ _ _ _ _ _ _ c.if-m.false c.is_output.ensures (not-true _ c.if-not-is_output.true)
+returns-then-not-is_output c = at_none _ _ _ _ _ _ _ c.if-m.false c.is_output.ensures (c.if-not-is_output.true)
 
 pub returns-then-output_node-node : goal.returns-then-output_node-node
 returns-then-output_node-node c =
-    at_other _ _ _ _ _ _ _ c.if-m.false c.is_output.ensures (not-false _ c.if-not-is_output.false) _ c.output_node.ensures c.if-output_node-node.true
+    at_other _ _ _ _ _ _ _ c.if-m.false c.is_output.ensures (c.if-not-is_output.false) _ c.output_node.ensures c.if-output_node-node.true
 
 pub returns : goal.returns
 returns c =
-    at_done _ _ _ _ _ _ _ c.if-m.false c.is_output.ensures (not-false _ c.if-not-is_output.false) _ c.output_node.ensures _ _ _ c.if-output_node-node.false c.output_value-v.ensures c.output_number-o.ensures c.extend.ensures
+    at_done _ _ _ _ _ _ _ c.if-m.false c.is_output.ensures (c.if-not-is_output.false) _ c.output_node.ensures _ _ _ c.if-output_node-node.false c.output_value-v.ensures c.output_number-o.ensures c.extend.ensures

@@ -22,7 +22,7 @@ pub loop-i-preserved : goal.loop-i-preserved
 loop-i-preserved c =
     let join = c.join-used in
     let loop = c.loop-i in
-    (listed_as _ _ _ _ _ _ _ (combined_next _ _ (inside _ _ c.loop-i-test.true)) (join.ensures.by_index _ loop.invariant.0), omega (arith, join.ensures.few, loop.invariant.1), omega arith, join.auto.1.1.1.0 ∙ loop.invariant.3, join.auto.1.1.1.1.0 ∙ loop.invariant.4)
+    (listed_as _ _ _ _ _ _ _ (combined_next _ _ (inside _ _ c.loop-i-test.true)) (join.ensures.by_index _ loop.invariant.0), omega (arith, join.ensures.few, loop.invariant.1), omega arith, join.auto.literals ∙ loop.invariant.3, join.auto.added ∙ loop.invariant.4)
 
 pub shape_of-literals : goal.shape_of-literals
 shape_of-literals c = c.loop-i.invariant.3

@@ -16,13 +16,13 @@ pub returns-then-not-lawful_at : goal.returns-then-not-lawful_at
 unfolding literal_unlawful signed_at
 returns-then-not-lawful_at c =
     let lawful-at = c.lawful_at in
-    all_stop lawful (pos 0) _ _ _ c.loop-i.invariant.0 c.loop-i-test.true (sym lawful-at.ensures ∙ not-true lawful-at.result c.if-not-lawful_at.true)
+    all_stop lawful (pos 0) _ _ _ c.loop-i.invariant.0 c.loop-i-test.true (sym lawful-at.ensures ∙ c.if-not-lawful_at.true)
 
 pub loop-i-preserved : goal.loop-i-preserved
 unfolding signed_at
 loop-i-preserved c =
     let lawful-at = c.lawful_at in
-    (all_on lawful (pos 0) _ _ _ c.loop-i.invariant.0 c.loop-i-test.true (sym lawful-at.ensures ∙ not-false lawful-at.result c.if-not-lawful_at.false), omega arith)
+    (all_on lawful (pos 0) _ _ _ c.loop-i.invariant.0 c.loop-i-test.true (sym lawful-at.ensures ∙ c.if-not-lawful_at.false), omega arith)
 
 pub returns : goal.returns
 unfolding literal_unlawful

@@ -19,7 +19,7 @@ pub loop-k-preserved : goal.loop-k-preserved
 loop-k-preserved c =
     let pair-clause = c.pair_clause-n in
     let loop = c.loop-k in
-    (λ w e i. clauses_turn _ _ _ _ _ _ _ w _ _ _ c.loop-k-test.true (pair-clause.ensures w e (asks_later _ _ _ _ loop.invariant.2 i)) (loop.invariant.0 w e i), omega arith, omega arith, pair-clause.auto.1.0 ∙ loop.invariant.3)
+    (λ w e i. clauses_turn _ _ _ _ _ _ _ w _ _ _ c.loop-k-test.true (pair-clause.ensures w e (asks_later _ _ _ _ loop.invariant.2 i)) (loop.invariant.0 w e i), omega arith, omega arith, pair-clause.auto.c ∙ loop.invariant.3)
 
 pub shape_of-c : goal.shape_of-c
 shape_of-c c = c.loop-k.invariant.3

@@ -21,7 +21,7 @@ pub loop-k-preserved : goal.loop-k-preserved
 loop-k-preserved c =
     let define = c.define-n in
     let loop = c.loop-k in
-    (outputs_turn _ _ _ _ _ _ _ c.loop-k-test.true define.ensures loop.invariant.0, omega arith, define.auto.0 ∙ loop.invariant.2, define.auto.1.0 ∙ loop.invariant.3)
+    (outputs_turn _ _ _ _ _ _ _ c.loop-k-test.true define.ensures loop.invariant.0, omega arith, define.auto.s ∙ loop.invariant.2, define.auto.c ∙ loop.invariant.3)
 
 pub shape_of-s : goal.shape_of-s
 shape_of-s c = c.loop-k.invariant.2

@@ -14,7 +14,7 @@ loop-i-preserved c =
     let loop = c.loop-i in (
       λ lits e b. leaf_next _ _ _ _ lits _ _ e loop-test.true (loop.invariant.0 lits e b) (leaf.ensures b _ (word_there _ lits _ e loop-test.true)),
       omega arith,
-      leaf.auto.0 ∙ loop.invariant.2,
+      leaf.auto.s ∙ loop.invariant.2,
     )
 
 pub shape_of-s : goal.shape_of-s

@@ -19,7 +19,7 @@ loop-i-preserved c =
     let loop = c.loop-i in (
       λ b. wait_next _ _ _ _ _ c.loop-i-test.true (loop.invariant.0 b) (waiting.ensures b),
       omega arith,
-      waiting.auto.0 ∙ loop.invariant.2,
+      waiting.auto.s ∙ loop.invariant.2,
     )
 
 pub shape_of-s : goal.shape_of-s
