@@ -38,4 +38,4 @@ returns c =
     let structured = c.structured-z in
     let args = c.args in
     let pre = c.requires in
-    (rebuilt_reached (build_of args.s args.store.now) (st args.store.now args.clauses.now (marks_at args.s args.n)) _ _ _ _ _ structured.result _ args.range (tail_put args.work.now _ (omega (arith, pre.3))) completed.ensures.marks structured.ensures.0 completed.ensures.carries, same_len_mid 3072 (length args.work.now - 3072) args.work.now structured.new.1.1.1.0 structured.ensures.1, take_put 3072 (length args.work.now - 3072) args.work.now structured.new.1.1.1.0 (omega (arith, pre.3)))
+    (rebuilt_reached (build_of args.s args.store.now) (st args.store.now args.clauses.now (marks_at args.s args.n)) _ _ _ _ _ structured.result _ args.range (tail_put args.work.now _ (omega (arith, pre.3))) completed.ensures.marks structured.ensures.0 completed.ensures.carries, same_len_mid 3072 (length args.work.now - 3072) args.work.now structured.new.work structured.ensures.1, take_put 3072 (length args.work.now - 3072) args.work.now structured.new.work (omega (arith, pre.3)))

@@ -45,7 +45,7 @@ pub overflow_cast-result : goal.overflow_cast-result
 overflow_cast-result c = omega (arith, c.segment-t.ensures.2, (within _ _ _ _ _ _ c.requires).1)
 
 pub shape_of-store : goal.shape_of-store
-shape_of-store c = c.renew-marks.auto.store ∙ c.segment-t.auto.work
+shape_of-store c = c.renew-marks.auto.store ∙ c.segment-t.auto.store
 
 pub shape_of-work : goal.shape_of-work
 shape_of-work c = c.segment-t.ensures.1
