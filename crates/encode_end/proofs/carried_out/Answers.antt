@@ -10,25 +10,25 @@ pub set_aside-requires : goal.set_aside-requires
 set_aside-requires c =
     let args = c.args in
     let pre = c.requires in
-    roomy _ pre.0 _ (begins_at _ pre.0 _ c-waiting.ensures) args.store.now args.work.now refl refl
+    roomy _ pre.0 _ (begins_at _ pre.0 _ c.before_waiting-n.ensures) args.store.now args.work.now refl refl
 
 pub reach-z-requires : goal.reach-z-requires
 unfolding case_of
 reach-z-requires c =
     let pre = c.requires in
-    (pre.0.begins, begins_at _ pre.0 _ c-waiting.ensures, ap (λ (k : Case). k.due) pre.1, c.set_aside.ensures.0)
+    (pre.0.begins, begins_at _ pre.0 _ c.before_waiting-n.ensures, ap (λ (k : Case). k.due) pre.1, c.set_aside.ensures.0)
 
 pub put_back-requires : goal.put_back-requires
 put_back-requires c =
     let reach = c.reach-z in
     let pre = c.requires in
-    roomy _ pre.0 _ (begins_at _ pre.0 _ c-waiting.ensures) reach.new.store reach.new.work reach.ensures.0.same_Store (reach.ensures.1 ∙ c.set_aside.ensures.1)
+    roomy _ pre.0 _ (begins_at _ pre.0 _ c.before_waiting-n.ensures) reach.new.store reach.new.work reach.ensures.0.same_Store (reach.ensures.1 ∙ c.set_aside.ensures.1)
 
 pub settled-requires : goal.settled-requires
 settled-requires c =
     let reach = c.reach-z in
     let pre = c.requires in
-    let room = roomy _ pre.0 _ (begins_at _ pre.0 _ c-waiting.ensures) reach.new.store reach.new.work reach.ensures.0.same_Store (reach.ensures.1 ∙ c.set_aside.ensures.1) in
+    let room = roomy _ pre.0 _ (begins_at _ pre.0 _ c.before_waiting-n.ensures) reach.new.store reach.new.work reach.ensures.0.same_Store (reach.ensures.1 ∙ c.set_aside.ensures.1) in
     omega (arith, room.within, c.put_back.ensures.1)
 
 pub shape_of-work-then-m : goal.shape_of-work-then-m
@@ -40,7 +40,7 @@ returns-then-m c =
     let reach = c.reach-z in
     let set-aside = c.set_aside in
     let pre = c.requires in
-    let at = begins_at _ pre.0 _ c-waiting.ensures in
+    let at = begins_at _ pre.0 _ c.before_waiting-n.ensures in
     undone_end _ pre.0 _ at reach.result reach.new.store reach.new.clauses reach.ensures.0 c.if-m.true _ put_back.new.store reach.new.work put_back.ensures.1
     (put_back.ensures.0 c.args.store.now (aside_kept _ pre.0 _ at _ _ set-aside.ensures.0 reach.ensures.1 reach.ensures.2) (kept _ pre.0 _ at reach.result reach.new.store reach.new.clauses reach.ensures.0))
     (reach.ensures.1 ∙ set-aside.ensures.1) c.settled.ensures
@@ -49,13 +49,13 @@ pub state_after-state-requires : goal.state_after-state-requires
 state_after-state-requires c =
     let reach = c.reach-z in
     let pre = c.requires in
-    (fresh_low _ pre.0 _ (begins_at _ pre.0 _ c-waiting.ensures) reach.result reach.new.store reach.new.clauses reach.ensures.0 c.if-m.false, omega (arith, pre.0.begins.well.laid.variables_few))
+    (fresh_low _ pre.0 _ (begins_at _ pre.0 _ c.before_waiting-n.ensures) reach.result reach.new.store reach.new.clauses reach.ensures.0 c.if-m.false, omega (arith, pre.0.begins.well.laid.variables_few))
 
 pub settled-requires-2 : goal.settled-requires-2
 settled-requires-2 c =
     let reach = c.reach-z in
     let pre = c.requires in
-    records_room _ pre.0 _ (begins_at _ pre.0 _ c-waiting.ensures) reach.result reach.new.store reach.new.clauses reach.ensures.0 c.if-m.false _ _ c.state_after-state.ensures
+    records_room _ pre.0 _ (begins_at _ pre.0 _ c.before_waiting-n.ensures) reach.result reach.new.store reach.new.clauses reach.ensures.0 c.if-m.false _ _ c.state_after-state.ensures
 
 pub shape_of-work : goal.shape_of-work
 shape_of-work c = c.settled-2.auto.work ∙ (c.reach-z.ensures.1 ∙ c.set_aside.ensures.1)
@@ -64,5 +64,5 @@ pub returns : goal.returns
 returns c =
     let reach = c.reach-z in
     let pre = c.requires in
-    done_end _ pre.0 _ (begins_at _ pre.0 _ c-waiting.ensures) reach.result reach.new.store reach.new.clauses reach.ensures.0 c.if-m.false _ _ c.args.case.built reach.new.work (ap (λ (k : Case). k.built) pre.1) c.state_after-state.ensures
+    done_end _ pre.0 _ (begins_at _ pre.0 _ c.before_waiting-n.ensures) reach.result reach.new.store reach.new.clauses reach.ensures.0 c.if-m.false _ _ c.args.case.built reach.new.work (ap (λ (k : Case). k.built) pre.1) c.state_after-state.ensures
     (reach.ensures.1 ∙ c.set_aside.ensures.1) c.settled-2.ensures

@@ -13,7 +13,7 @@ loop-i-init c = (λ rs h. refl, search rules, omega arith, refl)
 pub loop-i-preserved : goal.loop-i-preserved
 loop-i-preserved c =
     let loop = c.loop-i in
-    (λ rs h. map_turn (former_half rs) c.args.t3 loop.halves _ _ (search rules) (search rules) (c.former_half.ensures rs h) (loop.invariant.0 rs h), search rules, omega arith, rest_turn loop.halves loop.i _ 20 (omega arith) loop.invariant.3)
+    (λ rs h. map_turn (former_half rs) c.args.buckets loop.halves _ _ (search rules) (search rules) (c.former_half.ensures rs h) (loop.invariant.0 rs h), search rules, omega arith, rest_turn loop.halves loop.i _ 20 (omega arith) loop.invariant.3)
 
 pub returns : goal.returns
 returns c =

@@ -11,7 +11,7 @@ pub loop-i-preserved : goal.loop-i-preserved
 loop-i-preserved c =
     let extend_bucket = c.extend_bucket-n in
     let loop = c.loop-i in
-    (passing_turn _ _ _ _ c.args.t5 _ _ (search rules) _ (omega (arith, c.loop-i-test.true)) loop.invariant.1 loop.invariant.0 extend_bucket.ensures, omega arith, extend_bucket.auto.store ∙ loop.invariant.2, extend_bucket.auto.clauses ∙ loop.invariant.3)
+    (passing_turn _ _ _ _ c.args.buckets _ _ (search rules) _ (omega (arith, c.loop-i-test.true)) loop.invariant.1 loop.invariant.0 extend_bucket.ensures, omega arith, extend_bucket.auto.store ∙ loop.invariant.2, extend_bucket.auto.clauses ∙ loop.invariant.3)
 
 pub shape_of-store : goal.shape_of-store
 shape_of-store c = c.loop-i.invariant.2

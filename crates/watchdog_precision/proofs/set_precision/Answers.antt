@@ -3,4 +3,4 @@ use Rattle.watchdog_precision.proofs.Answers.{set_answer}
 use Rattle.watchdog_precision.proofs.set_precision.Goals as goal
 
 pub returns : goal.returns
-returns c = set_answer _ _ _ _ c.well-formed-2.ensures _ _ c.set.ensures
+returns c = set_answer _ _ _ _ c.well_formed-formed.ensures _ _ c.set.ensures

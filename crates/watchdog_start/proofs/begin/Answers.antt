@@ -6,8 +6,6 @@ use Rattle.rules.specs.Records.{literal_word}
 use Rattle.watchdog_start.proofs.Begun.{begun}
 use Rattle.watchdog_start.proofs.begin.Goals as goal
 
-)
-
 pub waits-requires : goal.waits-requires
 waits-requires c =
     let pre = c.requires in

@@ -21,4 +21,4 @@ pub shape_of-s : goal.shape_of-s
 shape_of-s c = c.loop-i.invariant.2
 
 pub returns : goal.returns
-returns c = more_all _ _ _ _ (leaves_over _ lits _ e c.loop-i-test.false) (c.loop-i.invariant.0 lits e b)
+returns c = λ lits e b. more_all _ _ _ _ (leaves_over _ lits _ e c.loop-i-test.false) (c.loop-i.invariant.0 lits e b)

@@ -26,4 +26,4 @@ pub shape_of-s : goal.shape_of-s
 shape_of-s c = c.loop-i.invariant.2
 
 pub returns : goal.returns
-returns c = more_all _ _ _ _ (waits_over _ _ c.loop-i-test.false) (c.loop-i.invariant.0 b)
+returns c = λ b. more_all _ _ _ _ (waits_over _ _ c.loop-i-test.false) (c.loop-i.invariant.0 b)
