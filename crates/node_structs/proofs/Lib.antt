@@ -1,6 +1,5 @@
 -- The laws of nodes in a slice.
 pub mod Reading
-pub mod Asking
 pub mod Filling
 pub mod Former
 pub mod Determined

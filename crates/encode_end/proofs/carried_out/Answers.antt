@@ -22,13 +22,13 @@ pub put_back-requires : goal.put_back-requires
 put_back-requires c =
     let reach = c.reach-z in
     let pre = c.requires in
-    roomy _ pre.0 _ (begins_at _ pre.0 _ c.before_waiting-n.ensures) reach.new.store reach.new.work reach.ensures.0.same_Store (reach.ensures.1 ∙ c.set_aside.ensures.1)
+    roomy _ pre.0 _ (begins_at _ pre.0 _ c.before_waiting-n.ensures) reach.new.store reach.new.work reach.ensures.0.same_store (reach.ensures.1 ∙ c.set_aside.ensures.1)
 
 pub settled-requires : goal.settled-requires
 settled-requires c =
     let reach = c.reach-z in
     let pre = c.requires in
-    let room = roomy _ pre.0 _ (begins_at _ pre.0 _ c.before_waiting-n.ensures) reach.new.store reach.new.work reach.ensures.0.same_Store (reach.ensures.1 ∙ c.set_aside.ensures.1) in
+    let room = roomy _ pre.0 _ (begins_at _ pre.0 _ c.before_waiting-n.ensures) reach.new.store reach.new.work reach.ensures.0.same_store (reach.ensures.1 ∙ c.set_aside.ensures.1) in
     omega (arith, room.within, c.put_back.ensures.1)
 
 pub shape_of-work-then-m : goal.shape_of-work-then-m

@@ -17,5 +17,9 @@ loop-i-preserved c =
 
 pub returns : goal.returns
 returns c =
-    let all = (let loop = c.loop-i in
-    (λ rs h. map_end (former_half rs) _ _ _ _ loop.invariant.2 c.loop-i-test.false (loop.invariant.0 rs h), (rest_end _ _ _ _ loop.invariant.2 c.loop-i-test.false loop.invariant.3, loop.invariant.1))) in record { halves = all.0; rest = all.1; length = all.2 }
+    let loop = c.loop-i in
+    record {
+      halves = λ rs h. map_end (former_half rs) _ _ _ _ loop.invariant.2 c.loop-i-test.false (loop.invariant.0 rs h);
+      rest = rest_end _ _ _ _ loop.invariant.2 c.loop-i-test.false loop.invariant.3;
+      length = loop.invariant.1;
+    }

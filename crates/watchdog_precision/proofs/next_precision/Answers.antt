@@ -8,7 +8,7 @@ pub returns-then-well_formed : goal.returns-then-well_formed
 returns-then-well_formed c =
     let if1 = c.if-well_formed in
     let well_formed = c.well_formed-2 in
-    next_answer _ _ _ _ well_formed.ensures _ if1.taken (c.next.ensures _ (formed_stores _ _ _ (sym well_formed.ensures ∙ if1.taken)))
+    next_answer _ _ _ _ well_formed.ensures _ if1.true (c.next.ensures _ (formed_stores _ _ _ (sym well_formed.ensures ∙ if1.true)))
 
 pub returns : goal.returns
-returns c = next_refused _ _ _ _ c.well_formed-2.ensures c.if-well_formed.left
+returns c = next_refused _ _ _ _ c.well_formed-2.ensures c.if-well_formed.false
