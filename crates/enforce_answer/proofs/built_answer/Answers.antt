@@ -1,5 +1,6 @@
 -- `built_answer` refuses what is not encoded and divides the bound.
-use Rattle.enforce_answer.proofs.Held.{small, ask_unbuilt, ask_waits, ask_root}
+use native.Mathlib.Omega.{arith}
+use Rattle.enforce_answer.proofs.Held.{quotient, small, ask_unbuilt, ask_waits, ask_root}
 use Rattle.enforce_answer.proofs.built_answer.Goals as goal
 
 pub returns-then-s-eq0 : goal.returns-then-s-eq0
@@ -16,3 +17,6 @@ root_answer-requires c =
 pub returns : goal.returns
 returns c =
     ask_root _ _ c.requires _ _ c.if-s-eq0.false _ c.largest.ensures _ _ _ c.if-s-largest.false c.root-top.ensures c.root_answer.ensures
+
+pub nonzero_div-u : goal.nonzero_div-u
+nonzero_div-u c = omega (arith, quotient _ _ c.requires c.if-s-eq0.false)

@@ -57,3 +57,6 @@ returns c =
     let top_bit = c.top_bit in
     let pre = c.requires in
     (merge_done _ _ _ _ _ _ pre _ (counted _ _ _ _ _ _ pre _ _ top_bit.ensures.value top-bit2.ensures.value).1 _ c.new_tares-tares.ensures _ c.former_halves-halves.ensures.halves _ _ _ segment.ensures.0 segment.ensures.1 segment.ensures.2 _ c.highest-below.ensures _ c.renew-marks.ensures _ _ c.append_buckets-buckets.ensures, segment.ensures.1, segment.ensures.3, omega (arith, (counted _ _ _ _ _ _ pre _ _ top_bit.ensures.value top-bit2.ensures.value).2), omega (arith, segment.ensures.2, (within _ _ _ _ _ _ pre).1))
+
+pub overflow_add-result-2 : goal.overflow_add-result-2
+overflow_add-result-2 c = omega (arith, c.segment-t.ensures.2, (within _ _ _ _ _ _ c.requires).1)

@@ -28,6 +28,7 @@ sum-requires c =
 
 pub returns : goal.returns
 returns c =
-    let all = ((
-  λ lits e l. begun _ _ _ _ l _ _ _ _ _ _ _ _ _ _ (ap length e ∙ length-map lits literal_word) c.sum.ensures c.starting_divisor-divisor.ensures c.state.ensures c.blank.ensures (c.leaves-m.ensures lits e) c.waits.ensures c.zero_words.ensures,
-  c.zero_signed.ensures,) in record { begun = all.0; clauses = all.1 }
+    record {
+      begun = λ lits e l. begun _ _ _ _ l _ _ _ _ _ _ _ _ _ _ (ap length e ∙ length-map lits literal_word) c.sum.ensures c.starting_divisor-divisor.ensures c.state.ensures c.blank.ensures (c.leaves-m.ensures lits e) c.waits.ensures c.zero_words.ensures;
+      clauses = c.zero_signed.ensures;
+    }
