@@ -9,7 +9,7 @@ use Rattle.records.proofs.Step.{Rest}
 use Rattle.totalizer_define.proofs.define_from.Given as goal
 
 abbrev pub invariant-loop-k : goal.invariant-loop-k
-invariant-loop-k l = Rest (st l.initial.s l.initial.c l.initial.n) (st l.s l.c l.n) (λ t. in_turn (λ t l.v. define_output t l.node l.v) t (rising l.many l.first)) (λ t. in_turn (λ t l.v. define_output t l.node l.v) t (rising l.k l.v)) × (l.v + l.k ≡ l.first + l.many) × (length l.s ≡ length l.initial.s) × (length l.c ≡ length l.initial.c)
+invariant-loop-k l = Rest (st l.initial.s l.initial.c l.initial.n) (st l.s l.c l.n) (λ t. in_turn (λ t v. define_output t l.node v) t (rising l.many l.first)) (λ t. in_turn (λ t v. define_output t l.node v) t (rising l.k l.v)) × (l.v + l.k ≡ l.first + l.many) × (length l.s ≡ length l.initial.s) × (length l.c ≡ length l.initial.c)
 
 abbrev pub decreases-loop-k : goal.decreases-loop-k
 decreases-loop-k l = l.k
