@@ -3,7 +3,7 @@ use Prim.Native.Nat.{◌-◌, ◌≤◌}
 use Rattle.history_print.proofs.digest_words.Given as goal
 
 abbrev pub invariant-loop-i : goal.invariant-loop-i
-invariant-loop-i l = l.from ≤ l.i
+invariant-loop-i g l = l.from ≤ l.i
 
 abbrev pub decreases-loop-i : goal.decreases-loop-i
-decreases-loop-i l = l.to - l.i
+decreases-loop-i g l = l.to - l.i

@@ -4,7 +4,7 @@ use lib.ListN.{length}
 use Rattle.history_print.proofs.literals.Given as goal
 
 abbrev pub invariant-loop-i : goal.invariant-loop-i
-invariant-loop-i l = l.i ≤ length l.c
+invariant-loop-i g l = l.i ≤ length l.c
 
 abbrev pub decreases-loop-i : goal.decreases-loop-i
-decreases-loop-i l = length l.c - l.i
+decreases-loop-i g l = length l.c - l.i

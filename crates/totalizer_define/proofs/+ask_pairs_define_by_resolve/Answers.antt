@@ -14,8 +14,7 @@ pub ask_pairs-loop-k-preserved : goal.ask_pairs-loop-k-preserved
 ask_pairs-loop-k-preserved t c =
     let first = c.resolve-n in
     let second = c.resolve-n-in-loop-k in
-    let loop = c.loop-k in
-    (
+    let loop = c.loop-k in (
       λ i. asks_turn _ _ _ _ _ _ _ _ _ _ _ _ c.loop-k-test.true (first.ensures (asks_whole _ (omega arith))) (second.ensures (asks_later _ _ _ _ loop.invariant.2 i)) (loop.invariant.0 i),
       omega arith,
       omega arith,
