@@ -1,6 +1,8 @@
 // Plays the histories of standard input; crates/history_play says how they are written.
 #![tactic(auto)]
 
-fn main() {
-    history_play::play_input();
+use std::io;
+
+fn main(rt: HostRuntime) -> io::Result<()> {
+    history_play::play_input(&rt)
 }

@@ -2,6 +2,8 @@
 // tests/rust_text/run writes them.
 #![tactic(auto)]
 
-fn main() {
-    history_play::play_input();
+use std::io;
+
+fn main(rt: HostRuntime) -> io::Result<()> {
+    history_play::play_input(&rt)
 }

@@ -8,9 +8,10 @@
 
 ghost use Rattle.std.specs.Prelude.{◌≡◌, ◌<◌, length};
 
-use libc::STDOUT_FILENO;
 use records::Marks;
 use records_append::Made;
+use std::io;
+use std::io::{BufWriter, Write};
 
 // Nothing used, and the first fresh number.
 fn blank_marks(fresh: u32) -> Marks {
@@ -24,9 +25,9 @@ fn blank_marks(fresh: u32) -> Marks {
 }
 
 // A number, and what it counts.
-fn line(text: &[u8], n: u64) {
-    io::print_decimal(STDOUT_FILENO, n);
-    io::write_all(STDOUT_FILENO, text);
+fn line<W: Write>(out: &mut W, text: &[u8], n: u64) -> io::Result<()> {
+    write!(out, "{n}")?;
+    out.write_all(text)
 }
 
 // Two nodes merged.
@@ -48,45 +49,47 @@ fn tree(s: &mut [u32], m: Marks) -> Made {
 }
 
 // A literal, apart from the one before it.
-fn print_literal(w: u32, apart: bool) {
+fn print_literal<W: Write>(out: &mut W, w: u32, apart: bool) -> io::Result<()> {
     if apart {
-        io::write_all(STDOUT_FILENO, b" ");
+        out.write_all(b" ")?;
     }
     if !numbers::positive(w) {
-        io::write_all(STDOUT_FILENO, b"-");
+        out.write_all(b"-")?;
     }
-    io::print_decimal(STDOUT_FILENO, numbers::variable(w) as u64);
+    let variable = numbers::variable(w);
+    write!(out, "{variable}")
 }
 
 // Whether a literal was printed; the end of a clause ends the line.
-fn print_word(w: u32, apart: bool) -> bool {
+fn print_word<W: Write>(out: &mut W, w: u32, apart: bool) -> io::Result<bool> {
     if w == 0 {
-        io::write_all(STDOUT_FILENO, b"\n");
-        return false;
+        out.write_all(b"\n")?;
+        return Ok(false);
     }
-    print_literal(w, apart);
-    true
+    print_literal(out, w, apart)?;
+    Ok(true)
 }
 
-fn print_clauses(c: &[i32], words: usize) {
+fn print_clauses<W: Write>(out: &mut W, c: &[i32], words: usize) -> io::Result<()> {
     let mut apart = false;
     let mut i: usize = 0;
     while i < words {
-        apart = print_word(numbers::word_at(c, i), apart);
+        apart = print_word(out, numbers::word_at(c, i), apart)?;
         i += 1;
     }
+    Ok(())
 }
 
 // P3's clauses and counts.
-fn worked() {
+fn worked<W: Write>(out: &mut W) -> io::Result<()> {
     let mut store = [0u32; 112];
     let mut clauses = [0i32; 34];
     let root = tree(&mut store, blank_marks(5));
     let z = totalizer_define::define(&mut store, &mut clauses, root.marks, root.node, 2);
-    print_clauses(&clauses, z.words);
-    line(b" clauses, ", z.clauses as u64);
-    line(b" words, ", z.words as u64);
-    line(b" records\n", z.records as u64);
+    print_clauses(out, &clauses, z.words)?;
+    line(out, b" clauses, ", z.clauses as u64)?;
+    line(out, b" words, ", z.words as u64)?;
+    line(out, b" records\n", z.records as u64)
 }
 
 fn blank_store() -> [u32; 20472]
@@ -132,21 +135,23 @@ fn sum(c: &[i32], words: usize) -> u64 {
 }
 
 // The counts and the sum of 256 leaves merged.
-fn merged() {
+fn merged<W: Write>(out: &mut W) -> io::Result<()> {
     let mut store = blank_store();
     let mut clauses = blank_clauses();
     let mut members = [0u32; 256];
     let m = leaves(&mut store, &mut members, blank_marks(257));
     let root = totalizer_merge::merge(&mut store, &members, m);
     let z = totalizer_define::define_from(&mut store, &mut clauses, root.marks, root.node, 1, 256);
-    line(b" records\n", z.records as u64);
-    line(b" the next number\n", z.fresh as u64);
-    line(b" clauses\n", z.clauses as u64);
-    line(b" words\n", z.words as u64);
-    line(b" the sum\n", sum(&clauses, z.words));
+    line(out, b" records\n", z.records as u64)?;
+    line(out, b" the next number\n", z.fresh as u64)?;
+    line(out, b" clauses\n", z.clauses as u64)?;
+    line(out, b" words\n", z.words as u64)?;
+    line(out, b" the sum\n", sum(&clauses, z.words))
 }
 
-fn main() {
-    worked();
-    merged();
+fn main(rt: HostRuntime) -> io::Result<()> {
+    let mut out = BufWriter::new(rt.alloc(), io::writer(&rt))?;
+    worked(&mut out)?;
+    merged(&mut out)?;
+    out.flush()
 }

@@ -3,8 +3,9 @@
 // other variables true decides.
 #![tactic(auto)]
 
-use libc::STDOUT_FILENO;
 use rules::State;
+use std::io;
+use std::io::Write;
 
 // What a pass over clauses has come to: whether a literal of the clause at hand holds, which one may be made true, 0 for none;
 // whether a variable was made true, whether a clause cannot be met.
@@ -157,14 +158,15 @@ fn digest_with(h: u64, n: u32, is: bool) -> u64 {
 }
 
 // How many of the first so many assignments are admitted, and the digest of their numbers, printed. A turn each.
-fn print_admitted(
+fn print_admitted<W: Write>(
+    out: &mut W,
     lits: &[i32],
     c: &[i32],
     answer: &[i32],
     truth: &mut [u32],
     first: u32,
     many: u32,
-) {
+) -> io::Result<()> {
     let mut count: u64 = 0;
     let mut h: u64 = 0;
     let mut n: u32 = 0;
@@ -175,8 +177,8 @@ fn print_admitted(
         h = digest_with(h, n, is);
         n += 1;
     }
-    history_print::number(count);
-    history_print::number(h);
+    history_print::number(out, count)?;
+    history_print::number(out, h)
 }
 
 // The least variable that is no input's. Constant time.
@@ -196,26 +198,40 @@ fn assignments(inputs: usize) -> u32 {
 }
 
 // The assignments over these variables. A turn each.
-fn admitted(s: State, lits: &[i32], c: &[i32], answer: &[i32], truth: &mut [u32; 4096]) {
+fn admitted<W: Write>(
+    out: &mut W,
+    s: State,
+    lits: &[i32],
+    c: &[i32],
+    answer: &[i32],
+    truth: &mut [u32; 4096],
+) -> io::Result<()> {
     print_admitted(
+        out,
         lits,
         c,
         answer,
         truth,
         first_fresh(s),
         assignments(lits.len()),
-    );
+    )
 }
 
 // How many assignments of at most 12 inputs are admitted by the used clauses and an answer, and the digest of their numbers: bit i
 // of a number is set where literal i is true. A turn an assignment, each some passes over the clauses; up to 4,095 variables.
-pub fn loads(s: State, lits: &[i32], clauses: &[i32], answer: &[i32]) {
+pub fn loads<W: Write>(
+    out: &mut W,
+    s: State,
+    lits: &[i32],
+    clauses: &[i32],
+    answer: &[i32],
+) -> io::Result<()> {
     let words = history_print::used_literals(clauses, s.words);
     if clauses.len() < words {
-        return;
+        return Ok(());
     }
     let mut truth = [0u32; 4096];
-    admitted(s, lits, &clauses[..words], answer, &mut truth);
+    admitted(out, s, lits, &clauses[..words], answer, &mut truth)
 }
 
 // The place of a number among the first so many slots, past them where it is in none. Linear.
@@ -250,46 +266,49 @@ fn value(store: &[u32], records: usize, node: u32, w: u32) -> u32 {
 }
 
 // A letter and a number.
-fn role(letter: &[u8], n: u64) {
-    io::write_all(STDOUT_FILENO, letter);
-    io::print_decimal(STDOUT_FILENO, n);
+fn role<W: Write>(out: &mut W, letter: &[u8], n: u64) -> io::Result<()> {
+    out.write_all(letter)?;
+    write!(out, "{n}")
 }
 
 // A literal that is not negated: t and a tare's power, else i and the input's variable. Linear in the tares.
-fn positive_role(tares: &[u32; rules::MOST_TARES], used: usize, variable: u32) {
+fn positive_role<W: Write>(
+    out: &mut W,
+    tares: &[u32; rules::MOST_TARES],
+    used: usize,
+    variable: u32,
+) -> io::Result<()> {
     let power = place(tares, used, variable);
     if power < used {
-        role(b" t", power as u64);
-        return;
+        return role(out, b" t", power as u64);
     }
-    role(b" i", variable as u64);
+    role(out, b" i", variable as u64)
 }
 
 // A negated one: o and the value of the root's output, else i and the input's variable behind a sign. Linear in the records.
-fn negative_role(s: State, store: &[u32], w: u32) {
+fn negative_role<W: Write>(out: &mut W, s: State, store: &[u32], w: u32) -> io::Result<()> {
     let buckets = s.buckets;
     let v = value(store, s.records, buckets[0], numbers::negated(w));
     if v != 0 {
-        role(b" o", v as u64);
-        return;
+        return role(out, b" o", v as u64);
     }
-    role(b" i-", numbers::variable(w) as u64);
+    role(out, b" i-", numbers::variable(w) as u64)
 }
 
-fn literal_role(s: State, store: &[u32], w: u32) {
+fn literal_role<W: Write>(out: &mut W, s: State, store: &[u32], w: u32) -> io::Result<()> {
     if numbers::positive(w) {
         let tares = s.tares;
-        positive_role(&tares, s.tares_used as usize, numbers::variable(w));
-        return;
+        return positive_role(out, &tares, s.tares_used as usize, numbers::variable(w));
     }
-    negative_role(s, store, w);
+    negative_role(out, s, store, w)
 }
 
 // The role of each literal of an answer. Linear in the records for each.
-pub fn roles(s: State, store: &[u32], answer: &[i32]) {
+pub fn roles<W: Write>(out: &mut W, s: State, store: &[u32], answer: &[i32]) -> io::Result<()> {
     let mut i: usize = 0;
     while i < answer.len() {
-        literal_role(s, store, numbers::word_at(answer, i));
+        literal_role(out, s, store, numbers::word_at(answer, i))?;
         i += 1;
     }
+    Ok(())
 }

@@ -24,10 +24,11 @@
 // literal's word. A digest goes through the words in order: h = (16777619 h + w) mod 4294967291, from 0.
 #![tactic(auto)]
 
-ghost use Rattle.std.specs.Prelude.{◌≡◌, ◌<◌, ◌≤◌, length};
+ghost use Rattle.std.specs.Prelude.{◌≡◌, ◌<◌, ◌≤◌, length, IfOk};
 
-use libc::{STDIN_FILENO, STDOUT_FILENO};
 use rules::{Coarse, Maximum, Precision, State};
+use std::io;
+use std::io::{BufWriter, Read, Write};
 
 // What a history has come to: the state, how many literals and weights were named, how many words are lent.
 #[derive(Clone, Copy)]
@@ -41,48 +42,57 @@ struct World {
 }
 
 // Start, from the inputs named so far. Grows as start does.
-fn start(
+fn start<W: Write>(
+    out: &mut W,
     line: &[u8],
     lits: &[i32],
     weights: &[u64],
     store: &mut [u32],
     clauses: &mut [i32],
     work: &[u32],
-) -> State {
+) -> io::Result<State> {
     let r = watchdog_start::start(lits, weights, history_text::short(line, 1), store, clauses);
     let answer = r.answer;
     let t = r.state;
-    history_print::number(history_print::refusal(answer));
+    history_print::number(out, history_print::refusal(answer))?;
     if history_text::brief(line) {
-        return t;
+        return Ok(t);
     }
-    history_print::state(t);
-    history_print::lent(t, store, clauses, work);
-    t
+    history_print::state(out, t)?;
+    history_print::lent(out, t, store, clauses, work)?;
+    Ok(t)
 }
 
 // Set_precision. Grows as that does.
-fn set(line: &[u8], s: State, store: &[u32], clauses: &[i32], work: &[u32]) -> State {
+fn set<W: Write>(
+    out: &mut W,
+    line: &[u8],
+    s: State,
+    store: &[u32],
+    clauses: &[i32],
+    work: &[u32],
+) -> io::Result<State> {
     let r = watchdog_precision::set_precision(s, store, clauses, history_text::number(line, 1));
     let answer = r.answer;
     let t = r.state;
-    history_print::number(history_print::refusal(answer));
+    history_print::number(out, history_print::refusal(answer))?;
     if history_text::brief(line) {
-        return t;
+        return Ok(t);
     }
-    history_print::state(t);
-    history_print::lent(t, store, clauses, work);
-    t
+    history_print::state(out, t)?;
+    history_print::lent(out, t, store, clauses, work)?;
+    Ok(t)
 }
 
 // Encode_ub_change. Grows as that does.
-fn encode(
+fn encode<W: Write>(
+    out: &mut W,
     line: &[u8],
     s: State,
     store: &mut [u32],
     clauses: &mut [i32],
     work: &mut [u32],
-) -> State {
+) -> io::Result<State> {
     let r = watchdog_encode::encode_ub_change(
         s,
         store,
@@ -93,116 +103,156 @@ fn encode(
     );
     let answer = r.answer;
     let t = r.state;
-    history_print::number(history_print::refusal(answer));
+    history_print::number(out, history_print::refusal(answer))?;
     if history_text::brief(line) {
-        return t;
+        return Ok(t);
     }
-    history_print::number(r.clauses as u64);
-    history_print::number(r.variables as u64);
-    history_print::state(t);
-    history_print::lent(t, store, clauses, work);
-    t
+    history_print::number(out, r.clauses as u64)?;
+    history_print::number(out, r.variables as u64)?;
+    history_print::state(out, t)?;
+    history_print::lent(out, t, store, clauses, work)?;
+    Ok(t)
 }
 
 // Enforce over a scratch: refusal number, how many literals, their words. Grows as enforce does.
-fn enforced(line: &[u8], s: State, store: &[u32], clauses: &[i32], scratch: &mut [i32]) {
+fn enforced<W: Write>(
+    out: &mut W,
+    line: &[u8],
+    s: State,
+    store: &[u32],
+    clauses: &[i32],
+    scratch: &mut [i32],
+) -> io::Result<()> {
     let mut refused: u32 = 7;
     let u = history_text::number(line, 1);
     let part = watchdog_enforce::enforce_ub(s, store, clauses, scratch, u, &mut refused);
-    history_print::number(refused as u64);
-    history_print::number(part.len() as u64);
-    history_print::literals(part);
+    history_print::number(out, refused as u64)?;
+    history_print::number(out, part.len() as u64)?;
+    history_print::literals(out, part)
 }
 
 // Enforce over the front of a scratch, then the digest of all of it. Grows as enforce does.
-fn enforced_in_front(line: &[u8], s: State, store: &[u32], clauses: &[i32], scratch: &mut [i32]) {
+fn enforced_in_front<W: Write>(
+    out: &mut W,
+    line: &[u8],
+    s: State,
+    store: &[u32],
+    clauses: &[i32],
+    scratch: &mut [i32],
+) -> io::Result<()> {
     let n = history_text::long(line, 2);
     if scratch.len() < n {
-        return;
+        return Ok(());
     }
-    enforced(line, s, store, clauses, &mut scratch[..n]);
-    history_print::bar();
-    history_print::digest_literals(scratch, 0, scratch.len());
+    enforced(out, line, s, store, clauses, &mut scratch[..n])?;
+    history_print::bar(out)?;
+    history_print::digest_literals(out, scratch, 0, scratch.len())
 }
 
 // Enforce over as many words as the line says of a scratch of 20 that held 7. Grows as enforce does.
-fn enforce(line: &[u8], s: State, store: &[u32], clauses: &[i32]) {
+fn enforce<W: Write>(
+    out: &mut W,
+    line: &[u8],
+    s: State,
+    store: &[u32],
+    clauses: &[i32],
+) -> io::Result<()> {
     let mut scratch = [7i32; 20];
-    enforced_in_front(line, s, store, clauses, &mut scratch);
+    enforced_in_front(out, line, s, store, clauses, &mut scratch)
 }
 
 // Enforce: refusal number, roles, assignments admitted. Grows as enforce does, and with assignments times clauses.
-fn meaning(line: &[u8], s: State, lits: &[i32], store: &[u32], clauses: &[i32]) {
+fn meaning<W: Write>(
+    out: &mut W,
+    line: &[u8],
+    s: State,
+    lits: &[i32],
+    store: &[u32],
+    clauses: &[i32],
+) -> io::Result<()> {
     let mut scratch = [0i32; 20];
     let mut refused: u32 = 7;
     let u = history_text::number(line, 1);
     let part = watchdog_enforce::enforce_ub(s, store, clauses, &mut scratch, u, &mut refused);
-    history_print::number(refused as u64);
+    history_print::number(out, refused as u64)?;
     if refused != 0 {
-        return;
+        return Ok(());
     }
-    history_loads::roles(s, store, part);
-    history_print::bar();
-    history_loads::loads(s, lits, clauses, part);
+    history_loads::roles(out, s, store, part)?;
+    history_print::bar(out)?;
+    history_loads::loads(out, s, lits, clauses, part)
 }
 
 // Coarse_ub. Grows as that does.
-fn coarse(line: &[u8], s: State, store: &[u32], clauses: &[i32]) {
+fn coarse<W: Write>(
+    out: &mut W,
+    line: &[u8],
+    s: State,
+    store: &[u32],
+    clauses: &[i32],
+) -> io::Result<()> {
     let p = watchdog_precision::coarse_ub(s, store, clauses, history_text::number(line, 1));
     match p {
-        Coarse::Bound(b) => history_print::number(b),
-        Coarse::Refused(n) => history_print::refused(n),
+        Coarse::Bound(b) => history_print::number(out, b),
+        Coarse::Refused(n) => history_print::refused(out, n),
     }
 }
 
 // Next_precision. Grows as that does.
-fn next(s: State, store: &[u32], clauses: &[i32]) {
+fn next<W: Write>(out: &mut W, s: State, store: &[u32], clauses: &[i32]) -> io::Result<()> {
     let p = watchdog_precision::next_precision(s, store, clauses);
     match p {
-        Precision::Divisor(d) => history_print::number(d),
-        Precision::Refused(n) => history_print::refused(n),
+        Precision::Divisor(d) => history_print::number(out, d),
+        Precision::Refused(n) => history_print::refused(out, n),
     }
 }
 
 // Is_max_precision, as 1 or 0. Grows as that does.
-fn maximum(s: State, store: &[u32], clauses: &[i32]) {
+fn maximum<W: Write>(out: &mut W, s: State, store: &[u32], clauses: &[i32]) -> io::Result<()> {
     let p = watchdog_precision::is_max_precision(s, store, clauses);
     match p {
-        Maximum::Yes => history_print::number(1),
-        Maximum::No => history_print::number(0),
-        Maximum::Refused(n) => history_print::refused(n),
+        Maximum::Yes => history_print::number(out, 1),
+        Maximum::No => history_print::number(out, 0),
+        Maximum::Refused(n) => history_print::refused(out, n),
     }
 }
 
 // Both totals. Constant time.
-fn totals(s: State) {
-    history_print::number(s.clauses as u64);
-    history_print::number(s.variables as u64);
+fn totals<W: Write>(out: &mut W, s: State) -> io::Result<()> {
+    history_print::number(out, s.clauses as u64)?;
+    history_print::number(out, s.variables as u64)
 }
 
 // All lent words of store and clause buffer. Linear in them.
-fn show(store: &[u32], clauses: &[i32]) {
-    history_print::words(store, 0, store.len());
-    history_print::bar();
-    history_print::literals(clauses);
+fn show<W: Write>(out: &mut W, store: &[u32], clauses: &[i32]) -> io::Result<()> {
+    history_print::words(out, store, 0, store.len())?;
+    history_print::bar(out)?;
+    history_print::literals(out, clauses)
 }
 
 // A call that only reads; r0 for a letter that is none. Grows as the call does.
-fn read(line: &[u8], s: State, store: &[u32], clauses: &[i32]) {
+fn read<W: Write>(
+    out: &mut W,
+    line: &[u8],
+    s: State,
+    store: &[u32],
+    clauses: &[i32],
+) -> io::Result<()> {
     let letter = history_text::byte(line, 0);
     match letter {
-        b'u' => enforce(line, s, store, clauses),
-        b'c' => coarse(line, s, store, clauses),
-        b'n' => next(s, store, clauses),
-        b'm' => maximum(s, store, clauses),
-        b't' => totals(s),
-        b'w' => show(store, clauses),
-        _ => history_print::refused(0),
+        b'u' => enforce(out, line, s, store, clauses),
+        b'c' => coarse(out, line, s, store, clauses),
+        b'n' => next(out, s, store, clauses),
+        b'm' => maximum(out, s, store, clauses),
+        b't' => totals(out, s),
+        b'w' => show(out, store, clauses),
+        _ => history_print::refused(out, 0),
     }
 }
 
 // A call, its line printed back and its answer behind it; the state afterwards. Grows as the call does.
-fn call(
+fn call<W: Write>(
+    out: &mut W,
     line: &[u8],
     s: State,
     lits: &[i32],
@@ -210,25 +260,25 @@ fn call(
     store: &mut [u32],
     clauses: &mut [i32],
     work: &mut [u32],
-) -> State {
+) -> io::Result<State> {
     let letter = history_text::letter(line);
-    io::write_all(STDOUT_FILENO, line);
-    io::write_all(STDOUT_FILENO, b":");
+    out.write_all(line)?;
+    out.write_all(b":")?;
     if letter == b's' {
-        return start(line, lits, weights, store, clauses, work);
+        return start(out, line, lits, weights, store, clauses, work);
     }
     if letter == b'p' {
-        return set(line, s, store, clauses, work);
+        return set(out, line, s, store, clauses, work);
     }
     if letter == b'e' {
-        return encode(line, s, store, clauses, work);
+        return encode(out, line, s, store, clauses, work);
     }
     if history_text::byte(line, 0) == b'U' {
-        meaning(line, s, lits, store, clauses);
-        return s;
+        meaning(out, line, s, lits, store, clauses)?;
+        return Ok(s);
     }
-    read(line, s, store, clauses);
-    s
+    read(out, line, s, store, clauses)?;
+    Ok(s)
 }
 
 // One word in every place from one on. Linear in them.
@@ -260,7 +310,8 @@ fn fill(line: &[u8], s: State, store: &mut [u32], clauses: &mut [i32], work: &mu
 }
 
 // A line over what is lent: words altered, or a call; the state afterwards. Grows as the call does.
-fn turn(
+fn turn<W: Write>(
+    out: &mut W,
     line: &[u8],
     s: State,
     lits: &[i32],
@@ -268,11 +319,11 @@ fn turn(
     store: &mut [u32],
     clauses: &mut [i32],
     work: &mut [u32],
-) -> State {
+) -> io::Result<State> {
     let letter = history_text::byte(line, 0);
     if letter == b'f' {
         fill(line, s, store, clauses, work);
-        return s;
+        return Ok(s);
     }
     if letter == b'a' {
         records_words::put(
@@ -280,15 +331,16 @@ fn turn(
             history_text::long(line, 1),
             history_text::short(line, 2),
         );
-        return s;
+        return Ok(s);
     }
-    let t = call(line, s, lits, weights, store, clauses, work);
-    history_print::end_line();
-    t
+    let t = call(out, line, s, lits, weights, store, clauses, work)?;
+    history_print::end_line(out)?;
+    Ok(t)
 }
 
 // The line with what it is lent, where the buffers have that much; the state afterwards. Grows as the call does.
-fn lent(
+fn lent<W: Write>(
+    out: &mut W,
     line: &[u8],
     w: World,
     lits: &[i32],
@@ -296,7 +348,7 @@ fn lent(
     store: &mut [u32],
     clauses: &mut [i32],
     work: &mut [u32],
-) -> State {
+) -> io::Result<State> {
     let n = w.literals;
     let k = w.weights;
     let a = w.store;
@@ -304,21 +356,22 @@ fn lent(
     let c = w.work;
     let s = w.state;
     if lits.len() < n {
-        return s;
+        return Ok(s);
     }
     if weights.len() < k {
-        return s;
+        return Ok(s);
     }
     if store.len() < a {
-        return s;
+        return Ok(s);
     }
     if clauses.len() < b {
-        return s;
+        return Ok(s);
     }
     if work.len() < c {
-        return s;
+        return Ok(s);
     }
     turn(
+        out,
         line,
         s,
         &lits[..n],
@@ -425,7 +478,8 @@ fn fresh() -> World {
 }
 
 // A line of the text; what the history has come to afterwards. Grows as the call does.
-fn line(
+fn line<W: Write>(
+    out: &mut W,
     line: &[u8],
     w: World,
     lits: &mut [i32],
@@ -433,31 +487,31 @@ fn line(
     store: &mut [u32],
     clauses: &mut [i32],
     work: &mut [u32],
-) -> World {
+) -> io::Result<World> {
     let letter = history_text::byte(line, 0);
     if letter == b'#' {
-        io::write_all(STDOUT_FILENO, line);
-        history_print::end_line();
-        return fresh();
+        out.write_all(line)?;
+        history_print::end_line(out)?;
+        return Ok(fresh());
     }
     if letter == b'x' {
-        return literal(line, w, lits);
+        return Ok(literal(line, w, lits));
     }
     if letter == b'i' {
-        return weight(line, literal(line, w, lits), weights);
+        return Ok(weight(line, literal(line, w, lits), weights));
     }
     if letter == b'l' {
-        return lend(line, w);
+        return Ok(lend(line, w));
     }
-    let s = lent(line, w, lits, weights, store, clauses, work);
-    World {
+    let s = lent(out, line, w, lits, weights, store, clauses, work)?;
+    Ok(World {
         state: s,
         literals: w.literals,
         weights: w.weights,
         store: w.store,
         clauses: w.clauses,
         work: w.work,
-    }
+    })
 }
 
 // Where the line ends that starts at a place. Linear in the line.
@@ -487,33 +541,36 @@ fn next_line(text: &[u8], from: usize, to: usize) -> usize
 }
 
 // Every line of the text, in order. Grows as the calls do.
-pub fn play(
+pub fn play<W: Write>(
+    out: &mut W,
     text: &[u8],
     lits: &mut [i32],
     weights: &mut [u64],
     store: &mut [u32],
     clauses: &mut [i32],
     work: &mut [u32],
-) {
+) -> io::Result<()> {
     let mut w = fresh();
     let mut from: usize = 0;
     while from < text.len() {
         let to = end_of_line(text, from);
-        w = line(&text[from..to], w, lits, weights, store, clauses, work);
+        w = line(out, &text[from..to], w, lits, weights, store, clauses, work)?;
         from = next_line(text, from, to);
     }
+    Ok(())
 }
 
 // Every line of the text over these buffers. Grows as the calls do.
-fn play_over(
+fn play_over<W: Write>(
+    out: &mut W,
     text: &[u8],
     lits: &mut [i32; rules::MOST_INPUTS + 1],
     weights: &mut [u64; rules::MOST_INPUTS + 1],
     store: &mut [u32; 24000],
     clauses: &mut [i32; 50000],
     work: &mut [u32; rules::WORK_WORDS],
-) {
-    play(text, lits, weights, store, clauses, work);
+) -> io::Result<()> {
+    play(out, text, lits, weights, store, clauses, work)
 }
 
 fn blank_text() -> [u8; 131072]
@@ -522,22 +579,40 @@ fn blank_text() -> [u8; 131072]
     [0; 131072]
 }
 
+// Reads until the text is full or the input ends: how many bytes stand at its front. Linear in them.
+pub fn read_text<R: Read>(input: &mut R, text: &mut [u8]) -> io::Result<usize>
+    ensures { IfOk result (λ n. n ≤ length text.new) }
+{
+    let mut n: usize = 0;
+    for _ in 0..text.len() {
+        let got = input.read(&mut text[n..])?;
+        if got == 0 {
+            break;
+        }
+        n += got;
+    }
+    Ok(n)
+}
+
 // The histories of standard input, over lists with room for 257 inputs, 3,000 records and 50,000 clause words. Grows as the
 // calls do.
-pub fn play_input() {
+pub fn play_input<R: Input + Print + AllocGlobal>(rt: &R) -> io::Result<()> {
     let mut text = blank_text();
     let mut lits = [0i32; rules::MOST_INPUTS + 1];
     let mut weights = [0u64; rules::MOST_INPUTS + 1];
     let mut work = [0u32; rules::WORK_WORDS];
     let mut store = [0u32; 24000];
     let mut clauses = [0i32; 50000];
-    let n = io::read_full(STDIN_FILENO, &mut text);
+    let mut out = BufWriter::new(rt.alloc(), io::writer(rt))?;
+    let n = read_text(&mut rt.reader(), &mut text)?;
     play_over(
+        &mut out,
         &text[..n],
         &mut lits,
         &mut weights,
         &mut store,
         &mut clauses,
         &mut work,
-    );
+    )?;
+    out.flush()
 }

@@ -5,7 +5,7 @@ use lib.ListN.{length}
 use Rattle.history_loads.proofs.print_admitted.Given as goal
 
 abbrev pub invariant-loop-n : goal.invariant-loop-n
-invariant-loop-n l = length l.truth ≡ length l.initial.truth
+invariant-loop-n g l = length l.truth ≡ length l.initial.truth
 
 abbrev pub decreases-loop-n : goal.decreases-loop-n
-decreases-loop-n l = l.many - l.n
+decreases-loop-n g l = l.many - l.n
