@@ -1,4 +1,5 @@
-// The public calls under C names, over lent slices. Each is the call of its name, demands nothing and takes the time of that call.
+// The public calls as C sees them, over lent slices. Each is the call of its name, demands nothing and takes the time of that call;
+// binding_c exports them.
 #![tactic(auto)]
 
 ghost use Rattle.std.specs.Prelude.{◌≡◌, length};
@@ -101,8 +102,7 @@ fn coarse_value(c: Coarse) -> Value
 }
 
 // start.
-#[unsafe(no_mangle)]
-pub extern "C" fn tweedpillar_start(
+pub fn tweedpillar_start(
     lits: &[i32],
     weights: &[u64],
     first: u32,
@@ -121,13 +121,7 @@ pub extern "C" fn tweedpillar_start(
 }
 
 // set_precision.
-#[unsafe(no_mangle)]
-pub extern "C" fn tweedpillar_set_precision(
-    s: State,
-    store: &[u32],
-    clauses: &[i32],
-    divisor: u64,
-) -> Answered
+pub fn tweedpillar_set_precision(s: State, store: &[u32], clauses: &[i32], divisor: u64) -> Answered
     ensures { result ≡ set_to (set_precision s store.now clauses.now divisor) }
 {
     let r = watchdog_precision::set_precision(s, store, clauses, divisor);
@@ -140,8 +134,7 @@ pub extern "C" fn tweedpillar_set_precision(
 }
 
 // next_precision: the divisor.
-#[unsafe(no_mangle)]
-pub extern "C" fn tweedpillar_next_precision(s: State, store: &[u32], clauses: &[i32]) -> Value
+pub fn tweedpillar_next_precision(s: State, store: &[u32], clauses: &[i32]) -> Value
     ensures { result ≡ divisor_value (next_precision s store.now clauses.now) }
 {
     let p = watchdog_precision::next_precision(s, store, clauses);
@@ -149,8 +142,7 @@ pub extern "C" fn tweedpillar_next_precision(s: State, store: &[u32], clauses: &
 }
 
 // is_max_precision: 1 for yes, 0 for no.
-#[unsafe(no_mangle)]
-pub extern "C" fn tweedpillar_is_max_precision(s: State, store: &[u32], clauses: &[i32]) -> Value
+pub fn tweedpillar_is_max_precision(s: State, store: &[u32], clauses: &[i32]) -> Value
     ensures { result ≡ yes_value (is_max_precision s store.now clauses.now) }
 {
     let m = watchdog_precision::is_max_precision(s, store, clauses);
@@ -158,8 +150,7 @@ pub extern "C" fn tweedpillar_is_max_precision(s: State, store: &[u32], clauses:
 }
 
 // encode_ub_change.
-#[unsafe(no_mangle)]
-pub extern "C" fn tweedpillar_encode_ub_change(
+pub fn tweedpillar_encode_ub_change(
     s: State,
     store: &mut [u32],
     clauses: &mut [i32],
@@ -181,8 +172,7 @@ pub extern "C" fn tweedpillar_encode_ub_change(
 }
 
 // enforce_ub: how many words at the front of the scratch are the answer.
-#[unsafe(no_mangle)]
-pub extern "C" fn tweedpillar_enforce_ub(
+pub fn tweedpillar_enforce_ub(
     s: State,
     store: &[u32],
     clauses: &[i32],
@@ -196,8 +186,7 @@ pub extern "C" fn tweedpillar_enforce_ub(
 }
 
 // coarse_ub: the bound.
-#[unsafe(no_mangle)]
-pub extern "C" fn tweedpillar_coarse_ub(s: State, store: &[u32], clauses: &[i32], u: u64) -> Value
+pub fn tweedpillar_coarse_ub(s: State, store: &[u32], clauses: &[i32], u: u64) -> Value
     ensures { result ≡ bound_value (coarse_ub s store.now clauses.now u) }
 {
     let c = watchdog_precision::coarse_ub(s, store, clauses, u);
