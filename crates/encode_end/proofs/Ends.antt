@@ -2,7 +2,7 @@
 use mathlib.Core.Path.{◌≡◌, refl, sym, ap, ap₂, ◌∙◌}
 use mathlib.Core.Bool.{Bool, true, false, not, ◌&&◌, ◌||◌}
 use mathlib.Core.List.{List, [], ◌∷◌}
-use Prim.Native.Nat.{ℕ, suc, ◌+◌, ◌-◌, ◌≤◌, ◌<◌}
+use Prim.Native.Nat.{ℕ, suc, ◌+◌, ◌≤◌, ◌<◌}
 use native.Mathlib.Omega.{arith}
 use lib.Dec.{ltb}
 use lib.ListN.{length}
@@ -11,7 +11,7 @@ use borrow.Author.Tests.{le-ltb, lt-ltb}
 use Rattle.rules.specs.declared.State.{State}
 use Rattle.rules.specs.Numbers.{capacity, most_variable}
 use Rattle.rules.specs.Refusals.{first_true}
-use Rattle.rules.specs.Build.{Build, records, clause_words, clause_mark, build_of, build_over}
+use Rattle.rules.specs.Build.{records, clause_words, clause_mark, build_of, build_over}
 use Rattle.rules.specs.WellFormed.{well_formed, not_well_formed}
 use Rattle.rules.specs.Encode.{EncodeEnd, nothing_asked, nothing_done, work_short, divisor_above, no_room, encode_refusal, untouched, no_room_end, encoded_end, encode_end, encode_ub_change}
 use Rattle.laws.specs.WellFormed.Plain.{WellFormed}

@@ -9,14 +9,13 @@ use lib.ListN.{length, get_or, take, replicate}
 use lib.Seq.{get_or-take}
 use lib.IntN.{ℤ, pos}
 use Rattle.rules.specs.declared.State.{State}
-use Rattle.rules.specs.declared.Answer.{Answer}
 use Rattle.rules.specs.declared.Answer.TheVariants.{Accepted, Refused}
 use Rattle.rules.specs.declared.Encoded.{Encoded}
 use Rattle.rules.specs.Lists.{padded}
 use Rattle.rules.specs.Numbers.{capacity}
 use Rattle.rules.specs.Refusals.{answer_of}
 use Rattle.rules.specs.Records.{Record, Entry, waiting, waits}
-use Rattle.rules.specs.Build.{Build, records, clause_total, clause_mark, state_of, build_of, build_over, buckets_of, with_arena, restructured}
+use Rattle.rules.specs.Build.{Build, records, clause_total, state_of, build_of, build_over, buckets_of, with_arena, restructured}
 use Rattle.rules.specs.Buckets.{build_structure}
 use Rattle.rules.specs.Refinement.{patched, merge_structures}
 use Rattle.rules.specs.Encode.{EncodeEnd, prepared, encode_outputs, nothing_asked, divisor_above, no_room, encoded, no_room_end, encoded_end}
@@ -35,8 +34,7 @@ use Rattle.build_begin.proofs.Begin.{count_is, stored}
 use Rattle.encode_outputs.specs.Taken.{with_waiting, whole}
 use Rattle.encode_undo.specs.Aside.{Roomy, Aside, Kept}
 use Rattle.encode_undo.proofs.Copying.{front_same}
-use Rattle.encode_case.specs.declared.Case.{Case}
-use Rattle.encode_case.specs.Case.{reaches, case_of}
+use Rattle.encode_case.specs.Case.{case_of}
 use Rattle.encode_case.specs.Call.{Call, found, reached, ended, Works}
 use Rattle.encode_case.proofs.Ways.{encode_way}
 use Rattle.encode_case.proofs.Tests.{asked_two, built_after}

@@ -1,5 +1,5 @@
 -- What an answer of an output and tares admits, over any build whose clauses mean what its outputs say and whose root counts the inputs.
-use Rattle.std.specs.Prelude.{◌≡◌, ◌≢◌, ◌↔◌, Bool, true, false, List, [], ◌∷◌, ℕ, suc, ◌+◌, ◌*◌, ◌-◌, ◌/◌, ◌^◌, ◌≤◌, ◌<◌, leb, length, ℤ, pos, neg_ℤ, nat_abs}
+use Rattle.std.specs.Prelude.{◌≡◌, ◌≢◌, ◌↔◌, Bool, true, false, List, [], ◌∷◌, ℕ, suc, ◌+◌, ◌*◌, ◌/◌, ◌^◌, ◌≤◌, ◌<◌, leb, length, ℤ, pos, neg_ℤ, nat_abs}
 use Rattle.std.proofs.Math.Path.{refl}
 use Rattle.std.proofs.Common.{ap₂, ◌∙◌, subst, arith, div-lt_iff_lt-mul, pow_pos}
 use borrow.Author.Tests.{leb-true, leb-false, lt-leb}

@@ -11,7 +11,7 @@ use Rattle.std.proofs.lemmas.List.{length-map}
 use Rattle.rules.specs.Lists.{total, rising}
 use Rattle.rules.specs.Numbers.{lawful}
 use Rattle.rules.specs.Digits.{digits, top_bit}
-use Rattle.rules.specs.Records.{Node, Output, Entry, Record, node, waits, node_at, outputs}
+use Rattle.rules.specs.Records.{Node, Output, Entry, Record, waits, node_at, outputs}
 use Rattle.rules.specs.Build.{Build, restructured, clause_total, clause_mark, largest, some_wait}
 use Rattle.rules.specs.Queue.{heavier, Sorting, gathered}
 use Rattle.rules.specs.Buckets.{buckets_over, build_structure}

@@ -12,7 +12,7 @@ use Rattle.std.proofs.Math.Seq.{get_or-drop}
 use Rattle.rules.specs.Lists.{total, rising}
 use Rattle.rules.specs.Numbers.{lawful}
 use Rattle.rules.specs.Digits.{top_bit}
-use Rattle.rules.specs.Records.{leaf, join, Node, Output, Record, node, waits, node_at, left_link, outputs}
+use Rattle.rules.specs.Records.{leaf, join, Node, Output, Record, waits, node_at, left_link, outputs}
 use Rattle.rules.specs.Build.{Build, restructured, clause_total, clause_mark, largest, some_wait}
 use Rattle.rules.specs.Queue.{Sorting, gathered}
 use Rattle.rules.specs.Buckets.{buckets_over}

@@ -1,5 +1,5 @@
 -- The nodes of what encode reaches go by rule, whatever the build's next fresh number.
-use Rattle.std.specs.Prelude.{◌≡◌, refl, ◌≢◌, Bool, true, false, not, ◌&&◌, ℕ, ◌+◌, ◌≤◌, leb, ltb}
+use Rattle.std.specs.Prelude.{◌≡◌, refl, ◌≢◌, Bool, true, false, not, ◌&&◌, ℕ, ◌≤◌, leb, ltb}
 use Rattle.std.proofs.Common.{sym, ap, ◌∙◌, subst, arith, eqb-true, ltb-false, leb-true}
 use mathlib.Core.List.{List, [], ◌∷◌, ◌++◌, map, reverse}
 use Rattle.rules.specs.Lists.{in_turn}

@@ -13,7 +13,7 @@ use Rattle.rules.specs.Records.{Kind, leaf, join, dummy, Output, Entry, Record, 
 use Rattle.rules.specs.WellFormed.{is_node, is_leaf, is_dummy}
 use Rattle.laws.specs.Records.Words.{image_length}
 use Rattle.laws.specs.Records.Places.{place}
-use Rattle.records.specs.Words.{field_at, held_at, fields}
+use Rattle.records.specs.Words.{field_at, held_at}
 use Rattle.records.specs.Readers.{is_join, is_halved, leaf_word, is_output, output_node, output_value, output_number, entry_node, entry_weight}
 use Rattle.records.specs.Carries.{Stores, size}
 use Rattle.records.proofs.Image.{image_word}

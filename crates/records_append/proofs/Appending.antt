@@ -6,7 +6,7 @@ use Prim.Native.Nat.{ℕ, suc, ◌+◌, ◌*◌, ◌/◌, ◌≤◌, ◌<◌, ma
 use native.Mathlib.Omega.{arith}
 use lib.ListN.{length, take, length-append}
 use lib.IntN.{ℤ}
-use Rattle.rules.specs.Records.{join, Node, Record, node, output, waiting, node_of, node_at, node_image, record_image, literal_word, leaf_node, dummy_node}
+use Rattle.rules.specs.Records.{Node, Record, node, output, waiting, node_of, node_at, node_image, record_image, literal_word, leaf_node, dummy_node}
 use Rattle.rules.specs.Totalizer.{Arena, counts, joining, add, take_number}
 use Rattle.records.specs.declared.Marks.{Marks}
 use Rattle.records.specs.declared.Fields.{Fields}

@@ -1,5 +1,5 @@
 -- "Sums on the blackboard": P1 to P9 as a single table, computed over the public calls.
-use Rattle.std.specs.Prelude.{◌≡◌, refl, Bool, true, false, not, ◌||◌, List, [], ◌∷◌, ◌++◌, map, ℕ, zero, suc, ◌+◌, ◌*◌, ◌-◌, ◌^◌, eqb, take, replicate, ℤ, pos, negsuc, neg_ℤ}
+use Rattle.std.specs.Prelude.{◌≡◌, refl, Bool, true, false, not, ◌||◌, List, [], ◌∷◌, ◌++◌, map, ℕ, zero, suc, ◌*◌, ◌-◌, ◌^◌, eqb, take, replicate, ℤ, pos, negsuc, neg_ℤ}
 use Rattle.rules.specs.declared.State.{State}
 use Rattle.rules.specs.declared.Set.{Set}
 use Rattle.rules.specs.Lists.{any, keep, rising}

@@ -1,5 +1,5 @@
 -- A state or store that is broken in one single clause of "Well formed", for each clause; 12 refuses it.
-use Rattle.std.specs.Prelude.{◌≡◌, refl, Bool, true, false, cond, List, [], ◌∷◌, map, ℕ, zero, suc, ◌*◌, ◌-◌, ◌^◌, get_or, set, replicate, pos}
+use Rattle.std.specs.Prelude.{◌≡◌, refl, Bool, true, false, cond, List, [], ◌∷◌, map, ℕ, zero, suc, ◌*◌, ◌^◌, get_or, set, replicate, pos}
 use Rattle.rules.specs.declared.State.{State}
 use Rattle.rules.specs.Lists.{rising}
 use Rattle.rules.specs.Refusals.{answer_number}

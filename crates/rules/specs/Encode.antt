@@ -1,5 +1,5 @@
 -- Encode: the state it reaches, what it refuses, and what each lent word holds afterwards.
-use Rattle.std.specs.Prelude.{Bool, true, false, not, ◌&&◌, ◌||◌, List, [], ◌∷◌, ◌++◌, ℕ, zero, suc, ◌+◌, ◌*◌, ◌-◌, ◌/◌, min, leb, ltb, eqb, length, take, replicate, ℤ, pos}
+use Rattle.std.specs.Prelude.{Bool, true, false, not, ◌&&◌, ◌||◌, List, [], ◌∷◌, ◌++◌, ℕ, zero, suc, ◌*◌, ◌-◌, ◌/◌, min, leb, ltb, eqb, length, take, replicate, ℤ, pos}
 use Rattle.rules.specs.declared.State.{State}
 use Rattle.rules.specs.declared.Encoded.{Encoded}
 use Rattle.rules.specs.Lists.{in_turn, rising, padded}

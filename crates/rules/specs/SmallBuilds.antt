@@ -1,5 +1,5 @@
 -- Small builds beside document 01's own cases: whole stores, clause lists and answers, computed over the public calls.
-use Rattle.std.specs.Prelude.{◌≡◌, refl, [], ◌∷◌, map, ◌-◌, length, pos}
+use Rattle.std.specs.Prelude.{◌≡◌, refl, [], ◌∷◌, map, length, pos}
 use Rattle.rules.specs.Build.{clause_words}
 use Rattle.rules.specs.Blackboard.{Lent, started, begun, set_to, encoded, enforced, used, counts, tares, neg, p3_build, p6_refined}
 

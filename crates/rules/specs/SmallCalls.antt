@@ -1,5 +1,5 @@
 -- Small calls beside document 01's own cases: refusals in their order, and what each lent word holds afterwards, computed over the public calls.
-use Rattle.std.specs.Prelude.{◌≡◌, refl, List, [], ◌∷◌, ◌++◌, map, ℕ, ◌+◌, ◌*◌, ◌-◌, get_or, take, drop, replicate, ℤ, pos}
+use Rattle.std.specs.Prelude.{◌≡◌, refl, List, [], ◌∷◌, ◌++◌, map, ℕ, ◌*◌, get_or, take, drop, replicate, ℤ, pos}
 use Rattle.rules.specs.Lists.{rising}
 use Rattle.rules.specs.Refusals.{answer_number}
 use Rattle.rules.specs.Encode.{EncodeEnd, encode_ub_change}

@@ -1,7 +1,7 @@
 -- `append_buckets` fills the slots behind in turn.
 use mathlib.Core.Path.{◌≡◌}
 use mathlib.Core.List.{List, ◌++◌}
-use Prim.Native.Nat.{ℕ, ◌+◌, ◌-◌, ◌≤◌}
+use Prim.Native.Nat.{ℕ, ◌-◌, ◌≤◌}
 use lib.ListN.{length, take, drop}
 use Rattle.rules.specs.Lists.{padded}
 use Rattle.build_arrays.proofs.append_buckets.Given as goal

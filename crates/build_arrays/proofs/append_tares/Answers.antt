@@ -1,6 +1,5 @@
 use mathlib.Core.Path.{sym, ap, ◌∙◌}
 use mathlib.Core.List.{append-nil}
-use Prim.Native.Nat.{◌-◌}
 use native.Mathlib.Omega.{arith}
 use Rattle.rules.specs.Lists.{padded}
 use Rattle.build_arrays.proofs.Slots.{append_turn, append_end}

@@ -1,4 +1,3 @@
-use Prim.Native.Nat.{◌-◌}
 use native.Mathlib.Omega.{arith}
 use Rattle.build_arrays.proofs.Slots.{fresh_start, fresh_turn, fresh_end}
 use Rattle.build_arrays.proofs.fresh_tares.Goals as goal

@@ -1,7 +1,6 @@
 use mathlib.Core.Path.{sym, ◌∙◌, subst}
-use mathlib.Core.Bool.{true}
 use mathlib.Core.List.{◌++◌, map}
-use Prim.Native.Nat.{ℕ, ◌-◌, ◌<◌}
+use Prim.Native.Nat.{ℕ, ◌<◌}
 use native.Mathlib.Omega.{arith}
 use Rattle.rules.specs.Records.{waiting}
 use Rattle.build_begin.proofs.Found.{walk_on, walk_here, walk_end}

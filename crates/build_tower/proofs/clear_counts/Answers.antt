@@ -1,5 +1,4 @@
 use mathlib.Core.Path.{refl, ◌∙◌}
-use Prim.Native.Nat.{◌-◌}
 use native.Mathlib.Omega.{arith}
 use Rattle.build_tower.proofs.Towers.{clear_turn}
 use Rattle.build_tower.proofs.clear_counts.Goals as goal

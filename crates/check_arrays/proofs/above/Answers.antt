@@ -1,5 +1,4 @@
 use mathlib.Core.Path.{refl}
-use Prim.Native.Nat.{◌-◌}
 use native.Mathlib.Omega.{arith}
 use Rattle.check_arrays.proofs.Slots.{above_on, above_hit, above_end}
 use Rattle.check_arrays.proofs.above.Goals as goal

@@ -1,5 +1,4 @@
 use mathlib.Core.Path.{refl}
-use Prim.Native.Nat.{◌-◌}
 use native.Mathlib.Omega.{arith}
 use Rattle.check_arrays.proofs.Slots.{among_on, among_hit, among_end}
 use Rattle.check_arrays.proofs.among.Goals as goal

@@ -1,8 +1,7 @@
 use mathlib.Core.Path.{refl}
-use Prim.Native.Nat.{◌+◌, ◌-◌}
+use Prim.Native.Nat.{◌+◌}
 use native.Mathlib.Omega.{arith}
 use lib.ListN.{get_or}
-use Rattle.rules.specs.Lists.{among}
 use Rattle.check_arrays.proofs.Slots.{distinct_on, distinct_stop, distinct_end, part_among}
 use Rattle.check_arrays.proofs.distinct.Goals as goal
 

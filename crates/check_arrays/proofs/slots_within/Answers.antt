@@ -1,4 +1,3 @@
-use Prim.Native.Nat.{◌-◌}
 use native.Mathlib.Omega.{arith}
 use Rattle.check_arrays.proofs.Walk.{walk_on, walk_stop, walk_end}
 use Rattle.check_arrays.proofs.Slots.{slots_start, slots_over}

@@ -1,6 +1,5 @@
 -- `ends_in` tests the node that the last bucket links.
 use mathlib.Core.Path.{sym, ◌∙◌}
-use borrow.Author.Tests.{not-true, not-false}
 use Rattle.check_buckets.proofs.Buckets.{ends_none, ends_idle, ends_whole, ends_halved}
 use Rattle.check_buckets.proofs.ends_in.Goals as goal
 

@@ -1,6 +1,5 @@
 -- `halved_to` tests the halving, then the link.
 use mathlib.Core.Path.{sym, ◌∙◌}
-use borrow.Author.Tests.{not-true, not-false}
 use Rattle.check_buckets.proofs.Buckets.{halved_none, halved_some}
 use Rattle.check_buckets.proofs.halved_to.Goals as goal
 

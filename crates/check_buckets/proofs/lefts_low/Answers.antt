@@ -1,8 +1,5 @@
 use mathlib.Core.Path.{refl, sym, ◌∙◌}
-use Prim.Native.Nat.{◌-◌}
 use native.Mathlib.Omega.{arith}
-use borrow.Author.Tests.{not-true, not-false}
-use Rattle.check_buckets.specs.Links.{left_low}
 use Rattle.check_buckets.proofs.Buckets.{lefts_on, lefts_stop, lefts_end}
 use Rattle.check_buckets.proofs.lefts_low.Goals as goal
 

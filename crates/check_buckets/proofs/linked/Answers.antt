@@ -1,8 +1,5 @@
 use mathlib.Core.Path.{refl, sym, ◌∙◌}
-use Prim.Native.Nat.{◌-◌}
 use native.Mathlib.Omega.{arith}
-use borrow.Author.Tests.{not-true, not-false}
-use Rattle.check_buckets.specs.Links.{link_right}
 use Rattle.check_buckets.proofs.Buckets.{linked_on, linked_stop, linked_end}
 use Rattle.check_buckets.proofs.linked.Goals as goal
 

@@ -1,7 +1,5 @@
 use mathlib.Core.Path.{sym, ◌∙◌}
-use Prim.Native.Nat.{◌-◌}
 use native.Mathlib.Omega.{arith}
-use borrow.Author.Tests.{not-true, not-false}
 use Rattle.check_arrays.proofs.Walk.{walk_start, walk_on, walk_stop, walk_end}
 use Rattle.check_inputs.proofs.each_waits.Goals as goal
 

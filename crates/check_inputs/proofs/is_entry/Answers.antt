@@ -1,6 +1,5 @@
 -- `is_entry` asks for a waiting entry, then compares its node.
 use mathlib.Core.Path.{sym, ◌∙◌}
-use borrow.Author.Tests.{not-true, not-false}
 use Rattle.check_inputs.proofs.Inputs.{entry_other, entry_here}
 use Rattle.check_inputs.proofs.is_entry.Goals as goal
 

@@ -1,4 +1,3 @@
-use Prim.Native.Nat.{◌-◌}
 use native.Mathlib.Omega.{arith}
 use Rattle.rules.specs.Records.{node_at}
 use Rattle.rules.specs.WellFormed.{variable_of}

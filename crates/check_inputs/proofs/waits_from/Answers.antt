@@ -1,5 +1,5 @@
 use mathlib.Core.Path.{refl, sym, ◌∙◌, subst}
-use Prim.Native.Nat.{ℕ, ◌-◌, ◌≤◌, ◌<◌}
+use Prim.Native.Nat.{ℕ, ◌≤◌, ◌<◌}
 use Rattle.rules.specs.Records.{unknown}
 use Rattle.check_arrays.proofs.Walk.{search_on, search_hit, search_end}
 use Rattle.check_inputs.specs.Steps.{is_entry, waits_in}

@@ -3,7 +3,6 @@ use mathlib.Core.Path.{ap, ◌∙◌}
 use mathlib.Core.Bool.{not}
 use borrow.Author.Tests.{eq-eqb, ne_eqb}
 use Rattle.check_arrays.proofs.Walk.{fail_here, pass_here}
-use Rattle.check_kinds.specs.Words.{zeros}
 use Rattle.check_kinds.proofs.Known.{way_1, way_2, way_3, way_4, way_5, way_none}
 use Rattle.check_kinds.proofs.kind_known.Goals as goal
 

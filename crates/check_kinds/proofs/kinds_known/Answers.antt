@@ -1,9 +1,6 @@
 use mathlib.Core.Path.{sym, ◌∙◌}
-use Prim.Native.Nat.{◌-◌}
 use native.Mathlib.Omega.{arith}
-use borrow.Author.Tests.{not-true, not-false}
 use Rattle.check_arrays.proofs.Walk.{walk_on, walk_stop, walk_end}
-use Rattle.check_kinds.specs.Words.{known_at}
 use Rattle.check_kinds.proofs.Known.{known_start}
 use Rattle.check_kinds.proofs.kinds_known.Goals as goal
 

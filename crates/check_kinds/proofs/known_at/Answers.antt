@@ -4,7 +4,7 @@ use Prim.Native.Nat.{ℕ}
 use borrow.Author.Tests.{eq-eqb, ne_eqb}
 use lib.Dec.{eqb}
 use Rattle.check_arrays.proofs.Walk.{fail_here, pass_here}
-use Rattle.check_kinds.specs.Words.{kind_known, words_known, known_at}
+use Rattle.check_kinds.specs.Words.{words_known, known_at}
 use Rattle.check_kinds.proofs.Known.{known_cong}
 use Rattle.check_kinds.proofs.known_at.Goals as goal
 

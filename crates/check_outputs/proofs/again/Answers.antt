@@ -1,6 +1,5 @@
 -- `again` looks an output up among the later records.
 use mathlib.Core.Path.{sym, ◌∙◌}
-use borrow.Author.Tests.{not-true, not-false}
 use Rattle.check_outputs.proofs.Outputs.{again_other, again_output}
 use Rattle.check_outputs.proofs.again.Goals as goal
 

@@ -1,6 +1,5 @@
 -- `defines` compares node and value of an output.
 use mathlib.Core.Path.{sym, ◌∙◌}
-use borrow.Author.Tests.{not-true, not-false}
 use Rattle.check_outputs.proofs.Outputs.{none_other, output_elsewhere, output_here}
 use Rattle.check_outputs.proofs.defines.Goals as goal
 

@@ -1,6 +1,5 @@
 -- `next_low` goes past an output's number.
 use mathlib.Core.Path.{sym, ◌∙◌}
-use borrow.Author.Tests.{not-true, not-false}
 use Rattle.check_outputs.proofs.Outputs.{low_other, low_output}
 use Rattle.check_outputs.proofs.next_low.Goals as goal
 

@@ -1,5 +1,5 @@
 use mathlib.Core.Path.{refl, sym, ◌∙◌, subst}
-use Prim.Native.Nat.{ℕ, ◌-◌, ◌≤◌, ◌<◌}
+use Prim.Native.Nat.{ℕ, ◌≤◌, ◌<◌}
 use native.Mathlib.Omega.{arith}
 use Rattle.check_outputs.proofs.Outputs.{distinct_on, distinct_stop, distinct_end}
 use Rattle.check_outputs.proofs.outputs_distinct.Goals as goal

@@ -1,9 +1,7 @@
 use mathlib.Core.Path.{refl, sym, ◌∙◌, subst}
-use Prim.Native.Nat.{ℕ, ◌-◌, ◌≤◌, ◌<◌}
+use Prim.Native.Nat.{ℕ, ◌≤◌, ◌<◌}
 use native.Mathlib.Omega.{arith}
-use borrow.Author.Tests.{not-true, not-false}
 use Rattle.rules.specs.WellFormed.{outputs_rise}
-use Rattle.check_outputs.specs.Steps.{rises}
 use Rattle.check_outputs.proofs.Outputs.{rise_on, rise_stop, rise_end}
 use Rattle.check_outputs.proofs.outputs_rise.Goals as goal
 

@@ -1,6 +1,5 @@
 -- `record_cost` picks what an entry costs.
 use mathlib.Core.Path.{sym, ◌∙◌}
-use borrow.Author.Tests.{not-true, not-false}
 use Rattle.check_outputs.proofs.Entries.{cost_other, cost_count, cost_maximum, cost_weight}
 use Rattle.check_outputs.proofs.record_cost.Goals as goal
 

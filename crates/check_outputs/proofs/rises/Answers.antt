@@ -1,6 +1,5 @@
 -- `rises` tests an output's number.
 use mathlib.Core.Path.{sym, ◌∙◌}
-use borrow.Author.Tests.{not-true, not-false}
 use Rattle.check_outputs.proofs.Outputs.{rises_other, rises_output}
 use Rattle.check_outputs.proofs.rises.Goals as goal
 

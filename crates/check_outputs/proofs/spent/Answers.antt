@@ -1,5 +1,5 @@
 use mathlib.Core.Path.{refl, subst}
-use Prim.Native.Nat.{ℕ, ◌-◌, ◌≤◌, ◌<◌}
+use Prim.Native.Nat.{ℕ, ◌≤◌, ◌<◌}
 use native.Mathlib.Omega.{arith}
 use Rattle.check_outputs.proofs.Entries.{budget_on, budget_over, budget_end}
 use Rattle.check_outputs.proofs.spent.Goals as goal

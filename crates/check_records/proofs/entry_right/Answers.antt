@@ -1,8 +1,7 @@
 -- `entry_right` tests the node and the weight.
 use mathlib.Core.Path.{sym, ap, ◌∙◌}
 use mathlib.Core.Bool.{not}
-use borrow.Author.Tests.{lt-ltb, le-ltb, le-leb, lt-leb, not-true, not-false}
-use Rattle.rules.specs.Lists.{among}
+use borrow.Author.Tests.{lt-ltb, le-ltb, le-leb, lt-leb}
 use Rattle.check_arrays.proofs.Walk.{fail_here, pass_here}
 use Rattle.check_records.specs.Tests.{entry_right}
 use Rattle.check_records.proofs.entry_right.Goals as goal

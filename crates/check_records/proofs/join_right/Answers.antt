@@ -1,7 +1,7 @@
 -- `join_right` tests the links, the bound and the totalizer rule, whose sums fit 64 bits.
 use mathlib.Core.Path.{sym, ap, ap₂, ◌∙◌}
 use Prim.Native.Nat.{ℕ, ◌+◌, max}
-use borrow.Author.Tests.{eq-eqb, ne_eqb, le-leb, lt-leb, not-true, not-false}
+use borrow.Author.Tests.{eq-eqb, ne_eqb, le-leb, lt-leb}
 use lib.Dec.{eqb}
 use Rattle.rules.specs.Totalizer.{counts}
 use Rattle.check_arrays.proofs.Walk.{fail_here, pass_here}

@@ -1,6 +1,5 @@
 -- `node_right` tests a node by its kind.
 use mathlib.Core.Path.{sym, ◌∙◌}
-use borrow.Author.Tests.{not-true, not-false}
 use Rattle.check_records.proofs.Right.{right_leaf, right_join, right_dummy}
 use Rattle.check_records.proofs.node_right.Goals as goal
 

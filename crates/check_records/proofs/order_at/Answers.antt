@@ -1,7 +1,6 @@
 -- `order_at` looks at the record after a waiting entry.
 use mathlib.Core.Path.{sym, ◌∙◌}
 use native.Mathlib.Omega.{arith}
-use borrow.Author.Tests.{not-true, not-false}
 use Rattle.check_records.proofs.Right.{order_other, order_last, order_next}
 use Rattle.check_records.proofs.order_at.Goals as goal
 

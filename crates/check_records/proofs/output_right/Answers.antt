@@ -1,10 +1,8 @@
 -- `output_right` tests the node, the value, the number.
 use mathlib.Core.Path.{sym, ap, ◌∙◌}
 use mathlib.Core.Bool.{not}
-use borrow.Author.Tests.{lt-ltb, le-ltb, le-leb, lt-leb, not-true, not-false}
+use borrow.Author.Tests.{lt-ltb, le-ltb, le-leb, lt-leb}
 use lib.Dec.{leb}
-use Rattle.rules.specs.Lists.{among}
-use Rattle.rules.specs.WellFormed.{is_leaf}
 use Rattle.check_arrays.proofs.Walk.{fail_here, pass_here}
 use Rattle.check_records.specs.Tests.{output_right}
 use Rattle.check_records.proofs.output_right.Goals as goal

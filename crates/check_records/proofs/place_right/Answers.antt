@@ -1,9 +1,8 @@
 -- `place_right` tests the record, the order, the links.
 use mathlib.Core.Path.{sym, ◌∙◌}
-use borrow.Author.Tests.{not-true, not-false}
 use Rattle.rules.specs.Records.{node_at}
 use Rattle.check_arrays.proofs.Walk.{fail_here, pass_here}
-use Rattle.check_records.specs.Tests.{record_right, order_at, place_right}
+use Rattle.check_records.specs.Tests.{place_right}
 use Rattle.check_records.proofs.place_right.Goals as goal
 
 pub returns-then-not-record_right : goal.returns-then-not-record_right

@@ -1,6 +1,5 @@
 -- `spare_at` looks both links of a join up among the buckets.
 use mathlib.Core.Path.{sym, ◌∙◌}
-use borrow.Author.Tests.{not-true, not-false}
 use Rattle.check_records.proofs.Right.{spare_other, spare_left, spare_below, spare_free}
 use Rattle.check_records.proofs.spare_at.Goals as goal
 

@@ -1,7 +1,6 @@
 -- `arrays_within` tests both arrays.
 use mathlib.Core.Path.{sym, ◌∙◌}
 use borrow.Author.Rules.{rules}
-use borrow.Author.Tests.{not-true, not-false}
 use Rattle.rules.specs.Build.{tares_of, buckets_of}
 use Rattle.rules.specs.WellFormed.{tares_within, buckets_within}
 use Rattle.check_arrays.proofs.Walk.{fail_here, pass_here}

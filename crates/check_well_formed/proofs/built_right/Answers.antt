@@ -1,11 +1,10 @@
 -- `built_right` tests the numbers, then the buckets.
 use mathlib.Core.Path.{sym, ap, ap₂, ◌∙◌}
-use borrow.Author.Tests.{not-true, not-false}
 use Rattle.rules.specs.Lists.{all}
 use Rattle.rules.specs.WellFormed.{buckets_linked, left_maxima_within, linked}
 use Rattle.check_buckets.specs.Links.{left_low}
 use Rattle.check_arrays.proofs.Walk.{fail_here, pass_here, pass_last}
-use Rattle.check_well_formed.specs.Groups.{hold, built_numbers, built_right, built_right_clauses}
+use Rattle.check_well_formed.specs.Groups.{hold, built_right, built_right_clauses}
 use Rattle.check_well_formed.proofs.Ways.{wait_is}
 use Rattle.check_well_formed.proofs.built_right.Goals as goal
 

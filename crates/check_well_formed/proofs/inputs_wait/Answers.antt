@@ -1,9 +1,8 @@
 -- `inputs_wait` counts the entries, then looks each input up among the last records.
 use Prim.Native.Nat.{◌≤◌}
 use native.Mathlib.Omega.{arith}
-use borrow.Author.Tests.{not-true, not-false}
 use Rattle.check_arrays.proofs.Walk.{fail_here, pass_here}
-use Rattle.check_well_formed.proofs.Ways.{count_is, count_other, count_same, count_fits, each_is}
+use Rattle.check_well_formed.proofs.Ways.{count_other, count_same, count_fits, each_is}
 use Rattle.check_well_formed.proofs.inputs_wait.Goals as goal
 
 pub returns-then-not-costs : goal.returns-then-not-costs

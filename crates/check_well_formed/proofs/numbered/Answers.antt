@@ -1,7 +1,5 @@
 -- `numbered` makes the pass, then the tests of outputs and tares.
 use mathlib.Core.Path.{sym, ◌∙◌}
-use borrow.Author.Tests.{not-true, not-false}
-use Rattle.rules.specs.Lists.{distinct}
 use Rattle.check_arrays.proofs.Walk.{fail_here, pass_here}
 use Rattle.check_well_formed.proofs.Ways.{numbered_way}
 use Rattle.check_well_formed.proofs.numbered.Goals as goal

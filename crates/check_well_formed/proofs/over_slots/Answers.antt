@@ -2,7 +2,6 @@
 use native.Mathlib.Omega.{arith}
 use lib.ListN.{length-take}
 use Rattle.rules.specs.Build.{tares_of, buckets_of}
-use Rattle.check_well_formed.specs.Groups.{records_hold}
 use Rattle.check_well_formed.proofs.Ways.{take_front}
 use Rattle.check_well_formed.proofs.over_slots.Goals as goal
 

@@ -1,11 +1,11 @@
 -- `records_hold` tests the groups in turn.
 use mathlib.Core.Path.{sym, ap, ◌∙◌}
 use mathlib.Core.Bool.{Bool, cond}
-use borrow.Author.Tests.{eq-eqb, ne_eqb, not-true, not-false}
+use borrow.Author.Tests.{eq-eqb, ne_eqb}
 use Rattle.rules.specs.Lists.{all}
 use Rattle.rules.specs.WellFormed.{inputs_first}
 use Rattle.check_arrays.proofs.Walk.{fail_here, pass_here, pass_last}
-use Rattle.check_well_formed.specs.Groups.{hold, numbered, numbered_clauses, waiting_few, built_right, unbuilt_right, records_hold, records_hold_clauses}
+use Rattle.check_well_formed.specs.Groups.{hold, numbered, numbered_clauses, built_right, unbuilt_right, records_hold, records_hold_clauses}
 use Rattle.check_well_formed.proofs.Clauses.{held_at}
 use Rattle.check_well_formed.proofs.records_hold.Goals as goal
 

@@ -1,6 +1,6 @@
 -- `state_right` tests the clauses in turn.
 use mathlib.Core.Path.{refl, sym, ◌∙◌}
-use borrow.Author.Tests.{lt-ltb, le-ltb, le-leb, lt-leb, not-true, not-false}
+use borrow.Author.Tests.{lt-ltb, le-ltb, le-leb, lt-leb}
 use Rattle.rules.specs.Lists.{all}
 use Rattle.rules.specs.WellFormed.{clauses_within, variables_below, fresh_within, set_lawful, inputs_within}
 use Rattle.check_arrays.proofs.Walk.{fail_here, pass_here, pass_last}

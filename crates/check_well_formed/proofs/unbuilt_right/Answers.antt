@@ -1,7 +1,7 @@
 -- `unbuilt_right` tests the clauses in turn.
 use mathlib.Core.Path.{sym, ap, ◌∙◌}
 use Prim.Native.Nat.{ℕ}
-use borrow.Author.Tests.{eq-eqb, ne_eqb, not-true, not-false}
+use borrow.Author.Tests.{eq-eqb, ne_eqb}
 use lib.Dec.{eqb}
 use Rattle.rules.specs.Lists.{all}
 use Rattle.rules.specs.WellFormed.{unbuilt_clauses, no_tare, no_bucket, inputs_wait, weights_add}

@@ -1,7 +1,6 @@
 -- `waiting_few` counts the entries, then adds their maxima.
 use mathlib.Core.Path.{sym, ap, ◌∙◌}
 use Prim.Native.Nat.{ℕ}
-use borrow.Author.Tests.{not-true, not-false}
 use lib.Dec.{leb}
 use Rattle.rules.specs.Lists.{all}
 use Rattle.rules.specs.WellFormed.{waiting_within, waiting_maxima_within}

@@ -1,11 +1,9 @@
 -- `well_formed` tests the marks, the state, the kinds, and then the records that the words store.
 use mathlib.Core.Path.{sym, ◌∙◌}
-use borrow.Author.Tests.{not-true, not-false}
 use Rattle.rules.specs.Lists.{all}
 use Rattle.rules.specs.Build.{held}
 use Rattle.rules.specs.WellFormed.{marks_within, well_formed, well_formed_clauses}
 use Rattle.check_arrays.proofs.Walk.{fail_here, pass_here}
-use Rattle.check_well_formed.specs.Groups.{state_right}
 use Rattle.check_well_formed.proofs.Regroup.{regroup}
 use Rattle.check_well_formed.proofs.Ways.{stores_held, marks_room, marks_few}
 use Rattle.laws.specs.Records.Words.{both}

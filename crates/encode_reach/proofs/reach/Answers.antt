@@ -3,7 +3,6 @@ use mathlib.Core.Path.{refl, sym, ◌∙◌}
 use native.Mathlib.Omega.{arith}
 use Rattle.rules.specs.Build.{build_of}
 use Rattle.encode_case.proofs.Tests.{asked_range, reaches_least}
-use Rattle.encode_reach.specs.Reached.{standing}
 use Rattle.encode_reach.proofs.Stands.{few_wait, standing_tares, stands_reached}
 use Rattle.encode_reach.proofs.reach.Goals as goal
 

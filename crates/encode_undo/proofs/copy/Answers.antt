@@ -1,5 +1,4 @@
 use mathlib.Core.Path.{refl, ◌∙◌}
-use Prim.Native.Nat.{◌-◌}
 use native.Mathlib.Omega.{arith}
 use Rattle.records_words.specs.Words.{word_at, put_word}
 use Rattle.encode_undo.proofs.Copying.{copy_start, copy_turn, copy_end}

@@ -1,4 +1,3 @@
-use Prim.Native.Nat.{◌-◌}
 use Rattle.enforce_answer.proofs.Back.{back_on, back_end, back_laid, tare_small, used_in, past_used}
 use lib.ListN.{take}
 use mathlib.Core.Path.{refl, ◌∙◌}

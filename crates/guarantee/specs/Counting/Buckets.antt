@@ -1,5 +1,5 @@
 -- The buckets count what the queue put into them, and their tares.
-use Rattle.std.specs.Prelude.{◌≡◌, refl, Bool, true, false, List, [], ◌∷◌, ◌++◌, map, ℕ, zero, suc, ◌+◌, ◌*◌, ◌-◌, ◌^◌, ◌≤◌, ◌<◌, length, drop, pos}
+use Rattle.std.specs.Prelude.{◌≡◌, refl, Bool, true, false, List, [], ◌∷◌, ◌++◌, map, ℕ, zero, suc, ◌+◌, ◌*◌, ◌^◌, ◌≤◌, ◌<◌, length, drop, pos}
 use Rattle.std.proofs.Common.{sym, ap, ap₂, ◌∙◌, subst, arith, mul-add, add-mul, mul_assoc, mul_comm, one-mul, mul-zero, length-append, length-drop}
 use Rattle.std.proofs.Math.Nat.{pow-succ'}
 use Rattle.std.proofs.lemmas.List.{length-map}

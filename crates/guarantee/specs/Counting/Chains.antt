@@ -1,5 +1,5 @@
 -- The chain of buckets: the root's value is what all buckets count, in units of the lowest one, divided by the weight of the top one.
-use Rattle.std.specs.Prelude.{◌≡◌, refl, Bool, true, false, List, [], ◌∷◌, ◌++◌, map, ℕ, suc, ◌+◌, ◌*◌, ◌-◌, ◌/◌, ◌^◌, ◌≤◌, ◌<◌, length, pos}
+use Rattle.std.specs.Prelude.{◌≡◌, refl, Bool, true, false, List, [], ◌∷◌, ◌++◌, map, ℕ, suc, ◌+◌, ◌*◌, ◌/◌, ◌^◌, ◌≤◌, ◌<◌, length, pos}
 use Rattle.std.proofs.Common.{sym, ap, ◌∙◌, arith, mul_comm, add-mul, mul_assoc, one-mul, zero-mul, mul-one, div-one, length-append, pow_pos, pow-add}
 use Rattle.std.proofs.Math.Nat.{pow-succ', add-mul-div_right, div-div-eq-div-mul}
 use Rattle.rules.specs.Records.{Node, left_link}

@@ -1,5 +1,5 @@
 -- A merged list counts what its members count; nodes made since some place are read off the records at the end.
-use Rattle.std.specs.Prelude.{◌≡◌, refl, Bool, true, false, List, [], ◌∷◌, ◌++◌, map, ℕ, zero, suc, ◌+◌, ◌-◌, ◌/◌, ◌≤◌, ◌<◌, length, take, drop, ℤ}
+use Rattle.std.specs.Prelude.{◌≡◌, refl, Bool, false, List, [], ◌∷◌, ◌++◌, map, ℕ, zero, suc, ◌+◌, ◌-◌, ◌/◌, ◌≤◌, ◌<◌, length, take, drop, ℤ}
 use Rattle.std.proofs.Common.{sym, ap, ap₂, ◌∙◌, append_assoc, append-nil, arith, length-append, take-append-drop, length-take, length-drop}
 use Rattle.rules.specs.Lists.{total}
 use Rattle.rules.specs.Records.{leaf, join, dummy, Node, Output, Record, node, node_at, outputs}

@@ -7,7 +7,7 @@ use Rattle.std.proofs.Math.ListN.{length, get_or, drop, length-drop}
 use Rattle.rules.specs.Lists.{rising}
 use Rattle.rules.specs.Digits.{digits, top_bit}
 use Rattle.rules.specs.Records.{Record, node_at}
-use Rattle.rules.specs.Build.{Build, restructured, unbuilt, largest, some_wait}
+use Rattle.rules.specs.Build.{Build, restructured, largest, some_wait}
 use Rattle.rules.specs.Queue.{Sorting, queue_run, gathered}
 use Rattle.rules.specs.Buckets.{buckets_over, build_structure}
 use Rattle.laws.specs.Lists.Facts.{All, All_map, All_drop, rising_length}

@@ -10,7 +10,7 @@ use Rattle.std.proofs.Math.ListN.{length}
 use borrow.Author.Tests.{eqb-true, ltb-false}
 use Rattle.rules.specs.Lists.{in_turn, rising}
 use Rattle.rules.specs.Digits.{digits, top_bit}
-use Rattle.rules.specs.Records.{Node, Output, Record, node, output, node_at, node_of, leaf_node, dummy_node}
+use Rattle.rules.specs.Records.{Node, Output, Record, output, node_at, node_of, leaf_node, dummy_node}
 use Rattle.rules.specs.Totalizer.{Arena, write, take_number, define_output}
 use Rattle.rules.specs.Build.{Build, restructured, with_arena, unbuilt, root, largest, some_wait}
 use Rattle.rules.specs.Queue.{Sorting, gathered}

@@ -1,10 +1,10 @@
 -- Every world that accepted calls reach counts its inputs.
-use Rattle.std.specs.Prelude.{◌≡◌, refl, ◌≢◌, Bool, false, not, ◌&&◌, ℕ, zero, suc, ◌+◌, ◌*◌, ◌-◌, ◌/◌, ◌^◌, ◌≤◌, ◌<◌, ltb, length, get_or, ℤ, pos, nat_abs}
+use Rattle.std.specs.Prelude.{◌≡◌, refl, ◌≢◌, Bool, false, not, ◌&&◌, ℕ, zero, suc, ◌+◌, ◌*◌, ◌/◌, ◌^◌, ◌≤◌, ◌<◌, ltb, length, get_or, ℤ, pos, nat_abs}
 use Rattle.std.proofs.Common.{sym, ap, ap₂, ◌∙◌, subst, arith, ltb-false, ne_eqb}
 use mathlib.Core.List.{List, [], ◌∷◌, zip_with}
 use Rattle.rules.specs.Lists.{total, rising}
 use Rattle.rules.specs.Numbers.{divisor_of}
-use Rattle.rules.specs.Records.{leaf, dummy, Output, node, node_at, node_of, outputs, leaf_node}
+use Rattle.rules.specs.Records.{leaf, dummy, Output, node_at, node_of, outputs, leaf_node}
 use Rattle.rules.specs.Build.{Build, unbuilt}
 use Rattle.rules.specs.Start.{new_build}
 use Rattle.rules.specs.Precision.{divisor_coarser}

@@ -1,5 +1,5 @@
 -- More nodes and more outputs leave what was claimed, and its clauses, as they were.
-use Rattle.std.specs.Prelude.{◌≡◌, refl, ◌≢◌, Bool, true, List, [], ◌∷◌, ◌++◌, ℕ, zero, suc, ◌+◌, ◌≤◌, ℤ, pos, neg_ℤ, nat_abs}
+use Rattle.std.specs.Prelude.{◌≡◌, refl, ◌≢◌, Bool, true, List, [], ◌∷◌, ◌++◌, ℕ, zero, suc, ◌≤◌, ℤ, pos, neg_ℤ, nat_abs}
 use Rattle.std.proofs.Common.{sym, ap, ap₂, ◌∙◌, subst, append-nil, arith}
 use Rattle.rules.specs.Records.{Kind, leaf, join, dummy, Node, Output, Record, node_at, outputs}
 use Rattle.rules.specs.Totalizer.{asks, number_in, number_of, literal_of, side, clause}

@@ -37,7 +37,7 @@ use Rattle.guarantee.specs.Refinement.Extending.{told_asked, buckets_told}
 use Rattle.guarantee.specs.Counting.Leaves.{run_keeps, over_keeps}
 use Rattle.guarantee.specs.Histories.Clauses.{Free, free_leaves, free_fresh, free_tares, occurs_reverse}
 use Rattle.guarantee.specs.Counting.Weighing.{WeighsBuilt}
-use Rattle.guarantee.specs.Refinement.Whole.{old, q, wait, fresh_tares, own, mss, R, segment, up, chain_rs, grown, begins_all, bucket_joins, left, refined_counts, refined_rest, refined_left}
+use Rattle.guarantee.specs.Refinement.Whole.{q, wait, fresh_tares, own, mss, R, segment, up, chain_rs, grown, begins_all, bucket_joins, left, refined_counts, refined_rest, refined_left}
 
 module _ (b : Build) (f : Formed b) (built : b.built ≢ 0) (reach : b.set ≤ largest b.queue) where
   -- the build over new buckets `lower` among the records `rs`

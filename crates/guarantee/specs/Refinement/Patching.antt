@@ -13,7 +13,7 @@ use Rattle.rules.specs.Refinement.{former_half}
 use Rattle.laws.specs.Lists.Facts.{All, All_map, All_zip, occurs, occurs_other}
 use Rattle.laws.specs.Records.Places.{place}
 use Rattle.laws.specs.WellFormed.Plain.{Sound, Rise, Spares, Linked}
-use Rattle.laws.specs.Refinement.Relinks.{first, Steps, Climbed}
+use Rattle.laws.specs.Refinement.Relinks.{Steps, Climbed}
 use Rattle.laws.specs.Refinement.Patches.{links_apart}
 use Rattle.guarantee.specs.Meaning.Truth.{Member}
 use Rattle.guarantee.specs.Meaning.Derived.{literal, ClaimedKind, Claimed, Sides, Pair, Derived, Asked, every, CompleteAt, Claim}

@@ -8,7 +8,7 @@ use Rattle.std.proofs.Math.ListN.{length, take, length-append}
 use Rattle.std.proofs.lemmas.List.{length-replicate}
 use Rattle.rules.specs.Lists.{rising}
 use Rattle.rules.specs.Digits.{top_bit}
-use Rattle.rules.specs.Records.{Kind, join, Node, Entry, Record, node_at, outputs, left_link}
+use Rattle.rules.specs.Records.{Kind, join, Node, Entry, Record, node_at, left_link}
 use Rattle.rules.specs.Build.{Build, largest, some_wait}
 use Rattle.rules.specs.Queue.{Sorting, queue_run, gathered}
 use Rattle.rules.specs.Buckets.{buckets_over}

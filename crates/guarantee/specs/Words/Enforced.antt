@@ -1,10 +1,10 @@
 -- What enforce answers over words, it answers over the build.
-use Rattle.std.specs.Prelude.{◌≡◌, Bool, true, false, cond, ◌&&◌, List, [], ◌∷◌, ◌++◌, ℕ, zero, suc, ◌+◌, ◌-◌, ◌/◌, eqb, leb, length, drop, ℤ}
+use Rattle.std.specs.Prelude.{◌≡◌, Bool, true, false, cond, ◌&&◌, List, [], ◌∷◌, ◌++◌, ℕ, zero, suc, ◌/◌, eqb, leb, length, drop, ℤ}
 use Rattle.std.proofs.Math.Path.{refl}
 use Rattle.std.proofs.Common.{sym, ap, ◌∙◌, arith}
 use Rattle.std.proofs.Math.Option.{Option, none, some}
 use Rattle.rules.specs.Totalizer.{number_of}
-use Rattle.rules.specs.Build.{Build, restructured, with_arena, records, clause_total, clause_mark, build_of, unbuilt, output_weight, root, root_node, largest}
+use Rattle.rules.specs.Build.{Build, restructured, with_arena, clause_total, clause_mark, build_of, unbuilt, output_weight, root, root_node, largest}
 use Rattle.rules.specs.WellFormed.{well_formed}
 use Rattle.rules.specs.Enforce.{one_answer, built_answer, root_answer, output_answer, enforce, EnforceEnd, refused_end, scratch_short, enforce_end, enforce_ub}
 use Rattle.laws.specs.Encode.Appends.{recounted}

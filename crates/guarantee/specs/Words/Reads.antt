@@ -1,9 +1,9 @@
 -- The words in the clause buffer, read as clauses, are the clauses of the build.
-use Rattle.std.specs.Prelude.{◌≡◌, refl, Bool, List, [], ◌∷◌, ◌++◌, ℕ, zero, suc, ◌+◌, ◌-◌, ◌≤◌, ℤ, pos, negsuc, neg_ℤ, nat_abs}
+use Rattle.std.specs.Prelude.{◌≡◌, refl, Bool, List, [], ◌∷◌, ◌++◌, ℕ, zero, suc, ◌≤◌, ℤ, pos, negsuc, neg_ℤ, nat_abs}
 use Rattle.std.proofs.Common.{sym, ap, ◌∙◌, subst, append_assoc, append-nil, arith}
 use Rattle.rules.specs.Records.{Kind, leaf, join, dummy, Record, node_at, outputs}
 use Rattle.rules.specs.Totalizer.{asks, number_of, literal_of, side, clause}
-use Rattle.rules.specs.Build.{Build, records, clause_words}
+use Rattle.rules.specs.Build.{Build, clause_words}
 use Rattle.laws.specs.Lists.Facts.{All, All_map, All_append}
 use Rattle.laws.specs.Records.Places.{place}
 use Rattle.laws.specs.WellFormed.Plain.{Sound, Rise}

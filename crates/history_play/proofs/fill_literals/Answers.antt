@@ -1,5 +1,4 @@
 use mathlib.Core.Path.{refl}
-use Prim.Native.Nat.{◌-◌}
 use Rattle.history_play.proofs.fill_literals.Goals as goal
 
 pub loop-i-init : goal.loop-i-init

@@ -8,7 +8,7 @@ use Prim.Native.Nat.{ℕ, zero, suc, ◌-◌, ◌≤◌, ◌<◌, min, max}
 use Rattle.std.proofs.Math.Dec.{eqb}
 use Rattle.rules.specs.Lists.{in_turn, keep}
 use Rattle.rules.specs.Refinement.{further_pairs, former_half, extend, extend_bucket}
-use Rattle.rules.specs.Records.{left_link, right_link, outputs, Kind, leaf, join, dummy, Node, Output, Record, node, output, node_at}
+use Rattle.rules.specs.Records.{left_link, right_link, outputs, Kind, leaf, join, dummy, Node, Output, Record, output, node_at}
 use Rattle.rules.specs.Totalizer.{Arena, counts, asks, write, take_number, Define, ask, ask_pair, define_join, define_kind, define, define_output, pairs, pairs_from, number_of}
 use Rattle.laws.specs.Lists.Facts.{All}
 use Rattle.laws.specs.Records.Places.{place, nodes_same, places_same, output_none}

@@ -8,7 +8,7 @@ use Prim.Native.Nat.{ℕ, zero, suc, ◌+◌, ◌≤◌, ◌<◌, max}
 use native.Mathlib.Omega.{arith}
 use Rattle.std.proofs.lemmas.Bool.{eqb-false}
 use Rattle.rules.specs.Lists.{in_turn}
-use Rattle.rules.specs.Records.{Kind, leaf, join, dummy, Node, Output, Record, node, output, node_at, outputs}
+use Rattle.rules.specs.Records.{Kind, leaf, join, dummy, Node, Output, Record, output, node_at, outputs}
 use Rattle.rules.specs.Totalizer.{Arena, counts, asks, clause, write, take_number, Define, ask, ask_pair, define_join, define_kind, define, pairs, number_of}
 use Rattle.rules.specs.WellFormed.{is_leaf}
 use Rattle.laws.specs.Lists.Facts.{All, All_map, All_append, map_append, occurs, occurs_append, occurs_here, occurs_other, occurs_none, All_source, All_first, All_second}

@@ -14,7 +14,7 @@ use Rattle.rules.specs.Lists.{all, among, keep, rising, padded}
 use Rattle.rules.specs.Numbers.{lawful_weight}
 use Rattle.rules.specs.Records.{leaf, Node, Output, Entry, Record, waiting, waits, node_at, left_link, outputs, entries}
 use Rattle.rules.specs.Build.{records, clause_total, clause_mark, clause_words, some_wait, tares_of, buckets_of, build_over}
-use Rattle.rules.specs.WellFormed.{slots_within, tares_within, buckets_within, clauses_within, variables_below, fresh_within, known, kinds_known, is_leaf, inputs_first, waiting_last, outputs_rise, leaves_lawful, links_nodes, heights_right, maxima_right, outputs_no_leaf, outputs_distinct, values_within, numbers_of, input_variables, numbers_distinct, numbers_above, numbers_below, set_lawful, two_inputs, built_power, built_coarser, built_times_weight, some_bucket, few_buckets, linked, buckets_linked, left_maxima_within, waiting_below_built, no_tare, no_bucket, inputs_wait, weights_add, maxima_within, links_spare_buckets, entries_spare_buckets, inputs_within, waiting_within, waiting_maxima_within, waiting_lawful, built_clauses, unbuilt_clauses, clauses_over}
+use Rattle.rules.specs.WellFormed.{slots_within, tares_within, buckets_within, clauses_within, variables_below, fresh_within, known, kinds_known, is_leaf, inputs_first, waiting_last, outputs_rise, leaves_lawful, links_nodes, heights_right, maxima_right, outputs_no_leaf, outputs_distinct, values_within, numbers_of, input_variables, numbers_distinct, numbers_above, numbers_below, set_lawful, two_inputs, built_power, built_coarser, built_times_weight, some_bucket, few_buckets, buckets_linked, left_maxima_within, waiting_below_built, no_tare, no_bucket, inputs_wait, weights_add, maxima_within, links_spare_buckets, entries_spare_buckets, inputs_within, waiting_within, waiting_maxima_within, waiting_lawful, built_clauses, unbuilt_clauses, clauses_over}
 use Rattle.laws.specs.Records.Words.{both, same_true}
 use Rattle.laws.specs.Lists.Facts.{All, All_keep, rising_at, and_true, not_yes, all_facts, occurs}
 use Rattle.laws.specs.Lists.Counts.{among_occurs, not_among_occurs, distinct_occurs}

@@ -1,7 +1,7 @@
-use Rattle.std.proofs.Common.{arith, subst, sym, ◌∙◌, ap}
-use Rattle.std.proofs.Common.{◌≤◌, ◌≡◌}
-use Rattle.node_structs.specs.Nodes.{Copies, node_in}
-use Rattle.node_structs.proofs.Filling.{filled, filled_start, filled_turn, filled_length, copies}
+use Rattle.std.proofs.Common.{arith}
+use Rattle.std.proofs.Common.{◌≡◌}
+use Rattle.node_structs.specs.Nodes.{node_in}
+use Rattle.node_structs.proofs.Filling.{filled_start, filled_turn, copies}
 use Rattle.node_structs.proofs.copy_nodes.Goals as goal
 
 pub loop-i-init : goal.loop-i-init

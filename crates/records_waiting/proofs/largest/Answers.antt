@@ -1,4 +1,3 @@
-use Prim.Native.Nat.{◌-◌}
 use Rattle.records_waiting.proofs.Waiting.{largest_on, largest_end}
 use native.Mathlib.Omega.{arith}
 use Rattle.records_waiting.proofs.largest.Goals as goal

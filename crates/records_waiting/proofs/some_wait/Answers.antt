@@ -1,4 +1,3 @@
-use Prim.Native.Nat.{◌-◌}
 use Rattle.records_waiting.proofs.Waiting.{some_on, some_stop, some_end}
 use mathlib.Core.Path.{refl}
 use native.Mathlib.Omega.{arith}

@@ -1,5 +1,4 @@
 use mathlib.Core.Path.{refl, ◌∙◌}
-use Prim.Native.Nat.{◌-◌}
 use native.Mathlib.Omega.{arith}
 use Rattle.records_words.specs.Words.{put_word}
 use Rattle.records_words.proofs.Zero.{zero_start, zero_turn, zero_end}

@@ -1,8 +1,6 @@
 use mathlib.Core.Path.{refl}
-use Prim.Native.Nat.{◌-◌}
 use native.Mathlib.Omega.{arith}
 use borrow.Author.Rules.{rules}
-use lib.ListN.{length}
 use Rattle.rules.specs.Refinement.{former_half}
 use Rattle.refine_links.proofs.Halves.{map_turn, map_end, rest_turn, rest_end}
 use Rattle.refine_links.proofs.former_halves.Goals as goal

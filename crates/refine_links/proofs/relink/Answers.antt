@@ -1,7 +1,6 @@
 use mathlib.Core.Path.{refl, ◌∙◌}
 use native.Mathlib.Omega.{arith}
 use borrow.Author.Rules.{rules}
-use borrow.Author.Tests.{not-true, not-false}
 use Rattle.refine_links.proofs.Linking.{going_start, going_end, relink_turn, relink_over}
 use Rattle.refine_links.proofs.relink.Goals as goal
 

@@ -1,5 +1,4 @@
 use mathlib.Core.Path.{refl, ◌∙◌}
-use Prim.Native.Nat.{◌-◌}
 use native.Mathlib.Omega.{arith}
 use Rattle.refine_outputs.proofs.Extending.{going_start, going_turn, going_end}
 use Rattle.refine_outputs.proofs.extend_bucket.Goals as goal

@@ -1,5 +1,4 @@
 -- `extend_record` reads whether the record is an output of the node, and then its value and number.
-use borrow.Author.Tests.{not-true, not-false}
 use Rattle.refine_outputs.proofs.Extending.{at_stop, at_none, at_other, at_done}
 use Rattle.refine_outputs.proofs.extend_record.Goals as goal
 

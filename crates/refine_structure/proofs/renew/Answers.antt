@@ -1,5 +1,4 @@
 -- `renew` links the buckets anew where their sizes fit, then extends.
-use borrow.Author.Tests.{not-true, not-false}
 use Rattle.refine_structure.proofs.Renewing.{renew_full, renew_over, renew_done}
 use Rattle.refine_structure.proofs.renew.Goals as goal
 

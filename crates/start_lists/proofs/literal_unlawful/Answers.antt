@@ -1,7 +1,5 @@
 use mathlib.Core.Path.{refl, sym, ◌∙◌}
-use Prim.Native.Nat.{◌-◌}
 use native.Mathlib.Omega.{arith}
-use borrow.Author.Tests.{not-true, not-false}
 use lib.IntN.{pos}
 use Rattle.rules.specs.Numbers.{lawful}
 use Rattle.rules.specs.Refusals.{literal_unlawful}

@@ -1,5 +1,4 @@
 use mathlib.Core.Path.{refl}
-use Prim.Native.Nat.{◌-◌}
 use Rattle.start_lists.proofs.Walk.{all_on, all_stop, all_end, inside, outside, word_there}
 use Rattle.start_lists.proofs.Order.{Below, below_no, below_yes}
 use Rattle.start_lists.proofs.reaches.Goals as goal

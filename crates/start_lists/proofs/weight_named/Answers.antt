@@ -1,4 +1,3 @@
-use Prim.Native.Nat.{◌-◌}
 use native.Mathlib.Omega.{arith}
 use Rattle.start_lists.specs.Literals.{words}
 use Rattle.start_lists.proofs.Walk.{inside}

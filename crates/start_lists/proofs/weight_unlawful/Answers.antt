@@ -1,5 +1,4 @@
 use mathlib.Core.Path.{refl}
-use Prim.Native.Nat.{◌-◌}
 use native.Mathlib.Omega.{arith}
 use Rattle.rules.specs.Numbers.{lawful_weight}
 use Rattle.start_lists.proofs.Walk.{all_on, all_stop, all_end}

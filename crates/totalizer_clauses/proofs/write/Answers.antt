@@ -1,5 +1,4 @@
 use mathlib.Core.Path.{refl, ◌∙◌}
-use Prim.Native.Nat.{◌-◌}
 use native.Mathlib.Omega.{arith}
 use Rattle.records.proofs.Step.{rest_start, rest_end}
 use Rattle.totalizer_clauses.proofs.PairWalk.{asks_later, write_end}

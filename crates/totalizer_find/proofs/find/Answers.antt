@@ -1,5 +1,4 @@
 use mathlib.Core.Path.{refl, sym, ◌∙◌}
-use Prim.Native.Nat.{◌-◌}
 use native.Mathlib.Omega.{arith}
 use Rattle.totalizer_find.proofs.Walk.{walk_on, walk_hit, walk_end}
 use Rattle.totalizer_find.proofs.find.Goals as goal

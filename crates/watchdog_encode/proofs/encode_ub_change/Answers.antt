@@ -1,6 +1,5 @@
 -- `encode_ub_change` refuses in order, does nothing where nothing is to do, and else carries out.
 use mathlib.Core.Path.{sym, ◌∙◌}
-use borrow.Author.Tests.{not-true, not-false}
 use Rattle.rules.specs.Build.{build_of}
 use Rattle.rules.specs.Refusals.{answer_of}
 use Rattle.encode_case.proofs.Tests.{asked_range}

@@ -1,6 +1,5 @@
 -- `enforce_count` answers over a build that is well formed.
 use mathlib.Core.Path.{sym, ap, ◌∙◌}
-use borrow.Author.Tests.{not-true, not-false}
 use Rattle.laws.specs.WellFormed.Whole.{well_formed_facts}
 use Rattle.enforce_answer.specs.declared.Answered.{Answered}
 use Rattle.enforce_answer.specs.Ends.{answered}

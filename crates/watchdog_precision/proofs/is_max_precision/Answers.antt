@@ -1,6 +1,5 @@
 -- `is_max_precision` reads a store that is well formed.
 use mathlib.Core.Path.{sym, ◌∙◌}
-use borrow.Author.Tests.{not-true, not-false}
 use Rattle.watchdog_precision.proofs.Formed.{formed_stores}
 use Rattle.watchdog_precision.proofs.Answers.{max_refused, max_no, max_yes}
 use Rattle.watchdog_precision.proofs.is_max_precision.Goals as goal

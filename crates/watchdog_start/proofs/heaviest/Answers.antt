@@ -1,4 +1,3 @@
-use Prim.Native.Nat.{◌-◌}
 use native.Mathlib.Omega.{arith}
 use Rattle.watchdog_start.proofs.Written.{heaviest_here, heaviest_none}
 use Rattle.watchdog_start.proofs.heaviest.Goals as goal

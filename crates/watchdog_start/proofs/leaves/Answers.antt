@@ -1,5 +1,4 @@
 use mathlib.Core.Path.{refl, ◌∙◌}
-use Prim.Native.Nat.{◌-◌}
 use native.Mathlib.Omega.{arith}
 use Rattle.watchdog_start.proofs.Written.{more_none, leaf_next, more_all, leaves_over, word_there}
 use Rattle.watchdog_start.proofs.leaves.Goals as goal

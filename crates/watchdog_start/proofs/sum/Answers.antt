@@ -1,4 +1,3 @@
-use Prim.Native.Nat.{◌-◌}
 use native.Mathlib.Omega.{arith}
 use Rattle.watchdog_start.proofs.Written.{total_here, total_none, total_few}
 use Rattle.watchdog_start.proofs.sum.Goals as goal

@@ -1,5 +1,4 @@
 use mathlib.Core.Path.{refl, ◌∙◌}
-use Prim.Native.Nat.{◌-◌}
 use native.Mathlib.Omega.{arith}
 use Rattle.watchdog_start.proofs.Written.{more_none, wait_next, more_all, waits_over, weight_small}
 use Rattle.watchdog_start.proofs.waits.Goals as goal

@@ -10,8 +10,8 @@ use Rattle.rules.specs.Lists.{in_turn}
 use Rattle.rules.specs.Records.{Kind, leaf, join, dummy, Node, Record, node_at}
 use Rattle.rules.specs.Totalizer.{Arena, counts, write, take_number, Define, ask, ask_pair, define_join, define_kind, define, pairs, number_of}
 use Rattle.laws.specs.Lists.Facts.{All, All_map}
-use Rattle.laws.specs.Totalizer.Missing.{sides, asking, lacks, missing, wanting, rest, asked, wants, put, Below, here, further, Ends}
-use Rattle.laws.specs.Totalizer.Later.{Falls, Ready, Later, later_same, later_then, later_higher, take_found, ready_write, ready_define, later_define, pairs_sides, all_sides, later_turns}
+use Rattle.links.specs.Missing.{sides, asking, lacks, missing, wanting, rest, asked, wants, put, Below, here, further, Ends}
+use Rattle.links.specs.Later.{Falls, Ready, Later, later_same, later_then, later_higher, take_found, ready_write, ready_define, later_define, pairs_sides, all_sides, later_turns}
 
 -- what is missing is an output of a join that has no number
 pub record Lacking (k : Kind) (number : ℕ) : Type 0 where

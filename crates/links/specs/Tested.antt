@@ -9,13 +9,13 @@ use Prim.Native.Nat.{ℕ, zero, suc, ◌+◌, ◌/◌, ◌%◌, ◌≤◌, ◌<�
 use native.Mathlib.Omega.{arith}
 use Rattle.std.proofs.Math.ListN.{length, get_or, get_or-append}
 use Rattle.std.proofs.Math.Seq.{get_or-append_seam, split_at}
-use Rattle.rules.specs.Links.{View, a_node, an_output, neither, Slot, root, next, same_slot, Links, put, none, found, ended, hit, hits, sees_node, links_of, links_from}
+use Rattle.links.specs.Links.{View, a_node, an_output, neither, Slot, root, next, same_slot, Links, put, none, found, ended, hit, hits, sees_node, links_of, links_from}
 use Rattle.laws.specs.Lists.Facts.{and_true}
-use Rattle.laws.specs.Links.Slots.{cut, sees_output, low}
-use Rattle.laws.specs.Links.Walks.{Leads, ends, finds, goes, leads_one, output_inside, hit_inside}
-use Rattle.laws.specs.Links.Turns.{slot_true, slot_self, put_here, put_there, put_cases, Turn, other, away, twice, hung, sure_links, links_turn}
-use Rattle.laws.specs.Links.Finds.{Lower, hits_key}
-use Rattle.laws.specs.Links.Cuts.{cut_low, cut_high, cut_at_most, cut_all, links_stay, links_was, links_not_yet}
+use Rattle.links.specs.Slots.{cut, sees_output, low}
+use Rattle.links.specs.Walks.{Leads, ends, finds, goes, leads_one, output_inside, hit_inside}
+use Rattle.links.specs.Turns.{slot_true, slot_self, put_here, put_there, put_cases, Turn, other, away, twice, hung, sure_links, links_turn}
+use Rattle.links.specs.Finds.{Lower, hits_key}
+use Rattle.links.specs.Cuts.{cut_low, cut_high, cut_at_most, cut_all, links_stay, links_was, links_not_yet}
 
 -- the walk of the output at m meets others at lower places, and at slot t itself
 pub data Reaches (is : ℕ → Bool) (M : Links) (m : ℕ) : ℕ → Slot → Slot → Type 0 where

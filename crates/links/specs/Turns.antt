@@ -4,11 +4,11 @@ use Rattle.std.proofs.Common.{sym, ◌∙◌, ap, subst, inl, inr, ⊎_elim, app
 use Rattle.std.proofs.lemmas.Bool.{false≢true}
 use Rattle.std.proofs.Math.ListN.{get_or-append}
 use Rattle.std.proofs.Math.Seq.{get_or-append_seam}
-use Rattle.rules.specs.Links.{View, a_node, an_output, neither, Slot, root, next, same_slot, Links, none, put, Way, found, ended, way, hit, hang, sees_node, link, links_from, links_of}
+use Rattle.links.specs.Links.{View, a_node, an_output, neither, Slot, root, next, same_slot, Links, none, put, Way, found, ended, way, hit, hang, sees_node, link, links_from, links_of}
 use Rattle.laws.specs.Records.Words.{both}
 use Rattle.laws.specs.Lists.Facts.{and_true}
-use Rattle.laws.specs.Links.Slots.{sees_output, stands, low}
-use Rattle.laws.specs.Links.Walks.{Leads, ends, goes, Linked, Sure, inside, stands_low, walk_leads, end_stands}
+use Rattle.links.specs.Slots.{sees_output, stands, low}
+use Rattle.links.specs.Walks.{Leads, ends, goes, Linked, Sure, inside, stands_low, walk_leads, end_stands}
 
 -- a fact of every list, one element more at a time
 pub snoc_ind : {A : Type 0} (P : List A → Type 0) → P [] → ((xs : List A) (x : A) → P xs → P (xs ++ (x ∷ []))) → (xs : List A) → P xs

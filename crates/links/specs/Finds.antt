@@ -11,11 +11,11 @@ use Rattle.std.proofs.Math.Dec.{eqb, ltb}
 use Rattle.std.proofs.Math.ListN.{length, length-append, get_or-append, get_or-eq_default}
 use Rattle.std.proofs.Math.Seq.{get_or-append_seam}
 use borrow.Author.Tests.{eqb-true, eqb-false, ltb-true, ltb-false}
-use Rattle.rules.specs.Links.{View, a_node, an_output, neither, Slot, root, next, same_slot, Links, put, Way, found, ended, way, hit, hits, sees_node, links_of, links_from, none}
+use Rattle.links.specs.Links.{View, a_node, an_output, neither, Slot, root, next, same_slot, Links, put, Way, found, ended, way, hit, hits, sees_node, links_of, links_from, none}
 use Rattle.laws.specs.Records.Words.{both}
-use Rattle.laws.specs.Links.Slots.{sees_output, stands, low}
-use Rattle.laws.specs.Links.Walks.{Leads, ends, finds, goes, leads_one, Sure, output_inside, hit_inside, walk_leads, replay_found, replay}
-use Rattle.laws.specs.Links.Turns.{snoc_ind, slot_self, slot_true, put_here, put_there, put_keeps, Turn, other, away, twice, hung, sure_links, links_turn, end_zero, new_empty}
+use Rattle.links.specs.Slots.{sees_output, stands, low}
+use Rattle.links.specs.Walks.{Leads, ends, finds, goes, leads_one, Sure, output_inside, hit_inside, walk_leads, replay_found, replay}
+use Rattle.links.specs.Turns.{snoc_ind, slot_self, slot_true, put_here, put_there, put_keeps, Turn, other, away, twice, hung, sure_links, links_turn, end_zero, new_empty}
 
 -- each output's node is a node that stands before it
 abbrev pub Lower : List View → Type 0

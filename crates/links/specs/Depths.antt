@@ -7,11 +7,11 @@ use Rattle.std.proofs.Math.Bool.{false≢true}
 use Prim.Native.Nat.{ℕ, zero, suc, ◌+◌, ◌/◌, ◌%◌, ◌≤◌, ◌<◌}
 use Rattle.std.proofs.Math.ListN.{length, length-append, get_or, get_or-append}
 use Rattle.std.proofs.Math.Seq.{get_or-append_seam}
-use Rattle.rules.specs.Links.{View, an_output, neither, Slot, root, next, Links, none, put, Way, ended, walk, way, hit, links_of, links_from}
-use Rattle.laws.specs.Links.Slots.{stands, owner, low}
-use Rattle.laws.specs.Links.Walks.{Leads, ends, finds, goes, Sure, walk_leads, output_inside, stands_low}
-use Rattle.laws.specs.Links.Turns.{snoc_ind, put_cases, Turn, other, away, twice, hung, sure_links, links_turn}
-use Rattle.laws.specs.Links.Tested.{hit_own}
+use Rattle.links.specs.Links.{View, an_output, neither, Slot, root, next, Links, none, put, Way, ended, walk, way, hit, links_of, links_from}
+use Rattle.links.specs.Slots.{stands, owner, low}
+use Rattle.links.specs.Walks.{Leads, ends, finds, goes, Sure, walk_leads, output_inside, stands_low}
+use Rattle.links.specs.Turns.{snoc_ind, put_cases, Turn, other, away, twice, hung, sure_links, links_turn}
+use Rattle.links.specs.Tested.{hit_own}
 
 -- the digits of v begin with these, the lowest first
 abbrev pub Follows : List ℕ → ℕ → Type 0
@@ -207,7 +207,7 @@ module _ (ks : List View) (small : (q n v : ℕ) → get_or ks q neither ≡ an_
       let more : length (W.to (next q (w % 4))).digits ≡ length (W.to s).digits + 1 =
       ap (λ (t : Trail). length t.digits) (W.to_next s q (w % 4) e) ∙ length-append (W.to s).digits (w % 4 ∷ []) in
       let short : length (W.to s).digits ≢ 5 = full in
-      rw (e, walk) (rw i (few f l (on_next ks (links_of ks) W (hit ks n v) n v w q s e o) (omega arith) (omega arith)))
+      rw (e, walk) (rw i (few {w = w / 4} {s = next q (w % 4)} f l (on_next ks (links_of ks) W (hit ks n v) n v w q s e o) (omega arith) (omega arith)))
     where
       full : length (W.to s).digits ≡ 5 → ⊥
       full five-long =

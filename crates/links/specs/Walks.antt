@@ -6,10 +6,10 @@ use Rattle.std.proofs.Math.Bool.{true, false}
 use Rattle.std.proofs.lemmas.Bool.{false≢true}
 use Prim.Native.Nat.{ℕ, zero, suc, ◌+◌, ◌/◌, ◌%◌, ◌≤◌, ◌<◌}
 use Rattle.std.proofs.Math.ListN.{length}
-use Rattle.rules.specs.Links.{View, neither, Slot, root, next, Links, Way, found, ended, walk, hit, hits, sees_node}
+use Rattle.links.specs.Links.{View, neither, Slot, root, next, Links, Way, found, ended, walk, hit, hits, sees_node}
 use Rattle.laws.specs.Records.Words.{both}
 use Rattle.laws.specs.Lists.Facts.{and_true}
-use Rattle.laws.specs.Links.Slots.{sees_output, stands, low}
+use Rattle.links.specs.Slots.{sees_output, stands, low}
 
 -- where a walk leads, without fuel
 pub data Leads (is : ℕ → Bool) (L : Links) : ℕ → Slot → Way → Type 0 where

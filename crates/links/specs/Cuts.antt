@@ -3,10 +3,10 @@ use Rattle.std.specs.Prelude.{◌≡◌, refl, Bool, true, false, cond, ◌⊎�
 use Rattle.std.proofs.Common.{sym, ◌∙◌, ap, inl, inr, ⊎_elim, append-nil, append_assoc, arith, length-append, take-append-drop, take_all, length-take-le, leb-true, leb-false, le-leb}
 use Rattle.std.proofs.Math.Path.{fun_ext}
 use Rattle.std.proofs.lemmas.Bool.{lt-leb}
-use Rattle.rules.specs.Links.{View, Slot, same_slot, Links, put, links_of}
-use Rattle.laws.specs.Links.Slots.{up_to, cut, low}
-use Rattle.laws.specs.Links.Walks.{Sure, output_inside}
-use Rattle.laws.specs.Links.Turns.{slot_true, put_here, put_there, Turn, other, away, twice, hung, sure_links, links_turn}
+use Rattle.links.specs.Links.{View, Slot, same_slot, Links, put, links_of}
+use Rattle.links.specs.Slots.{up_to, cut, low}
+use Rattle.links.specs.Walks.{Sure, output_inside}
+use Rattle.links.specs.Turns.{slot_true, put_here, put_there, Turn, other, away, twice, hung, sure_links, links_turn}
 
 pub cut_low : (m : ℕ) (L : Links) (s : Slot) → L s ≤ m → cut m L s ≡ L s
 unfolding cut up_to

@@ -8,12 +8,12 @@ use Prim.Native.Nat.{ℕ, zero, suc, ◌+◌, ◌≤◌, ◌<◌}
 use native.Mathlib.Omega.{arith}
 use Rattle.std.proofs.Math.ListN.{length, length-append, get_or}
 use Rattle.std.proofs.Math.Seq.{get_or-append_seam}
-use Rattle.rules.specs.Links.{View, a_node, an_output, neither, Slot, root, next, same_slot, Links, none, put, hit, sees_node, links_of}
-use Rattle.laws.specs.Links.Slots.{sees_output, stands, has, owner, low}
-use Rattle.laws.specs.Links.Walks.{Sure}
-use Rattle.laws.specs.Links.Turns.{snoc_ind, slot_true, slot_self, put_there, Turn, other, away, twice, hung, sure_links, links_turn, next_empty, new_empty}
-use Rattle.laws.specs.Links.Finds.{Lower}
-use Rattle.laws.specs.Links.Tested.{Reaches, here, on, Tested, Distinct, links_tested}
+use Rattle.links.specs.Links.{View, a_node, an_output, neither, Slot, root, next, same_slot, Links, none, put, hit, sees_node, links_of}
+use Rattle.links.specs.Slots.{sees_output, stands, has, owner, low}
+use Rattle.links.specs.Walks.{Sure}
+use Rattle.links.specs.Turns.{snoc_ind, slot_true, slot_self, put_there, Turn, other, away, twice, hung, sure_links, links_turn, next_empty, new_empty}
+use Rattle.links.specs.Finds.{Lower}
+use Rattle.links.specs.Tested.{Reaches, here, on, Tested, Distinct, links_tested}
 
 -- a number of each slot that has a word, from place p on, added up
 unfoldable pub sum : (Slot → ℕ) → ℕ → List View → ℕ

@@ -1,6 +1,6 @@
 -- Slots of links: the records that they belong to, and links up to a place.
 use Rattle.std.specs.Prelude.{Bool, true, false, cond, ◌&&◌, List, ℕ, suc, leb, ltb, get_or}
-use Rattle.rules.specs.Links.{View, a_node, an_output, neither, Slot, root, next, Links, sees_node}
+use Rattle.links.specs.Links.{View, a_node, an_output, neither, Slot, root, next, Links, sees_node}
 
 -- the record is an output
 unfoldable pub sees_output : View → Bool

@@ -13,7 +13,7 @@ use Rattle.laws.specs.Records.Places.{outputs_append, number_in_append, number_i
 use Rattle.laws.specs.Records.Images.{number_of_append}
 use Rattle.laws.specs.WellFormed.Plain.{Sound}
 use Rattle.laws.specs.Totalizer.Defines.{over_outputs, define_keeps}
-use Rattle.laws.specs.Totalizer.Missing.{sides, asking}
+use Rattle.links.specs.Missing.{sides, asking}
 
 -- heights fall along links
 abbrev pub Falls : (ℕ → Node) → Type 0
