@@ -1,5 +1,2 @@
--- Words against builds: what memory shows of a build, where calls lead it, its clauses, what enforce answers.
+-- Words against builds: what memory shows of a build.
 pub mod Shows
-pub mod Goes
-pub mod Reads
-pub mod Enforced

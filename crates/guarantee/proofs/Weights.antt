@@ -28,7 +28,7 @@ use Rattle.guarantee.specs.Promise.{sum_of}
 use Rattle.guarantee.specs.Histories.Worlds.{Leads, World}
 use Rattle.guarantee.specs.Histories.Reached.{started_world, leads_world}
 use Rattle.guarantee.specs.Histories.Plain.{Plain, leads_plain, new_plain}
-use Rattle.guarantee.specs.Answered.{counting}
+use Rattle.guarantee.proofs.Answered.{counting}
 use Rattle.guarantee.specs.Standing.{powers, waits_of, weight_of, only, weight_values}
 
 powers_units : (f : ℕ → ℕ) (k m : ℕ) (ms : List ℕ) → powers f (k * 2 ^ length ms) (m ∷ ms) ≡ k * units (map f (m ∷ ms))

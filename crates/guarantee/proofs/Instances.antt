@@ -9,7 +9,8 @@ use Rattle.guarantee.specs.Meaning.Truth.{Assign, holds}
 use Rattle.guarantee.specs.Promise.{sum_of, Admits}
 use Rattle.guarantee.specs.Standing.{stands, weight_of}
 use Rattle.guarantee.specs.Calls.{Memory, started, set_call, encode_call, lend_anew, Run, none_yet, next_set, next_encode, next_lend, clauses_in}
-use Rattle.guarantee.specs.Admitted.{answer_promise, demand3_words, demand3_exactly, demand3_one}
+use Rattle.guarantee.proofs.Demand3Words.{demand3_words, demand3_exactly, demand3_one}
+use Rattle.guarantee.proofs.Admitted.{answer_promise}
 
 -- lent words, with 9s in them
 abbrev store : ℕ → List ℕ

@@ -27,7 +27,8 @@ use Rattle.guarantee.specs.Counting.Chains.{units, tare_sum, tops}
 use Rattle.guarantee.specs.Counting.Roots.{root_law}
 use Rattle.guarantee.specs.Counting.Tares.{Once, set_tares_above}
 use Rattle.guarantee.specs.Promise.{sum_of, Admits}
-use Rattle.guarantee.specs.Answers.{Counting, admits}
+use Rattle.guarantee.specs.Answers.{Counting}
+use Rattle.guarantee.proofs.Answers.{admits}
 use Rattle.guarantee.specs.Histories.Clauses.{once_apart}
 use Rattle.guarantee.specs.Histories.Worlds.{World, Follows}
 

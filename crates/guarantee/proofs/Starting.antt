@@ -31,7 +31,7 @@ use Rattle.guarantee.specs.Histories.Worlds.{Leads, here, World}
 use Rattle.guarantee.specs.Histories.Reached.{started_world, leads_world}
 use Rattle.guarantee.specs.Calls.{Memory, started, set_call, encode_call, lend_anew}
 use Rattle.guarantee.specs.Words.Shows.{Shows, bare, kept_shows}
-use Rattle.guarantee.specs.Words.Goes.{Encodes, encode_goes, read_is, same_ten, leads_then, start_shows}
+use Rattle.guarantee.proofs.Words.Goes.{Encodes, encode_goes, read_is, same_ten, leads_then, start_shows}
 
 -- what waits after a start: the largest of it is the heaviest input
 largest_queued : (k : ℕ) (ws : List ℕ) → largest (zip_with (λ (n w : ℕ). record { node = n; weight = w }) (rising (length ws) k) ws) ≡ heaviest ws
