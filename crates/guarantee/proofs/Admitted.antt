@@ -16,7 +16,8 @@ use Rattle.guarantee.specs.Histories.Reached.{started_world, leads_world}
 use Rattle.guarantee.proofs.Demand3.{promised, promised_empty}
 use Rattle.guarantee.specs.Calls.{Memory, started, Run}
 use Rattle.guarantee.specs.Words.Shows.{Shows}
-use Rattle.guarantee.proofs.Words.Goes.{Goes, run_goes, start_shows}
+use Rattle.guarantee.specs.Words.Goes.{Goes}
+use Rattle.guarantee.proofs.Words.Goes.{run_goes, start_shows}
 use Rattle.guarantee.proofs.Words.Reads.{shows_clauses}
 use Rattle.guarantee.proofs.Words.Enforced.{answer_told}
 use Rattle.guarantee.specs.Admitted.{Promises}

@@ -31,6 +31,7 @@ use Rattle.guarantee.specs.Answers.{Counting}
 use Rattle.guarantee.proofs.Answers.{admits}
 use Rattle.guarantee.specs.Histories.Clauses.{once_apart}
 use Rattle.guarantee.specs.Histories.Worlds.{World, Follows}
+use Rattle.guarantee.specs.Answered.{asked, Answered, Enforced}
 
 once_of : (ts : List ℕ) → ((n : ℕ) → occurs n ts ≤ 1) → Once ts
 once_of [] h = tt
@@ -82,23 +83,6 @@ counting xs ws b w n = record {
         value (node_at rs) t (get_or bs 0 0) ≡ (sum_of xs ws b.built t + tare_sum t b.tares) / 2 ^ length b.tares
     at_root [] h l c t e = absurd (omega arith)
     at_root (r ∷ bs) h l c t e = root_law (node_at rs) (place rs) f.sound t (some_wait b.queue) r bs b.tares (sum_of xs ws b.built t) m l (omega (arith, c)) e
-
--- the bound in units of the built divisor
-abbrev pub asked : Build → ℕ → ℕ
-asked b u = u / (b.built / b.set)
-
--- an answer that is not empty: the negation of an output, and the tares of the bits that fill the bound up
-pub record Answered (b : Build) (q : ℕ) (answer : List ℤ) : Type 0 where
-  pub number : ℕ
-  pub positive : 1 ≤ number
-  pub defined : number_of b.arena.records (root b) (suc (q / 2 ^ length b.tares)) ≡ number
-  pub is : answer ≡ neg_ℤ (pos number) ∷ set_tares b.tares (2 ^ length b.tares - 1 - q % 2 ^ length b.tares)
-
--- what an answer of two or more inputs comes from
-pub record Enforced (b : Build) (u : ℕ) (answer : List ℤ) : Type 0 where
-  pub is_built : b.built ≢ 0
-  pub settled : largest b.queue < b.set
-  pub answered : Answered b (asked b u) answer
 
 pub nothing_some : (l : ℤ) (ls : List ℤ) → ◌≡◌ {A = Option (List ℤ)} (some []) (some (l ∷ ls)) → ⊥
 nothing_some l ls e = let z : ◌≡◌ {A = List ℤ} [] (l ∷ ls) = cc in let y : ◌≡◌ {A = ℕ} 0 1 = cc in omega arith

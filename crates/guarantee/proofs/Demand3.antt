@@ -29,7 +29,8 @@ use Rattle.guarantee.specs.Answers.{Counting}
 use Rattle.guarantee.proofs.Answers.{bound_law}
 use Rattle.guarantee.specs.Histories.Worlds.{Leads, World, Follows}
 use Rattle.guarantee.specs.Histories.Reached.{started_world, leads_world, leads_follows}
-use Rattle.guarantee.proofs.Answered.{counting, asked, Enforced, enforced, nothing_some, none_some, none_enforce, two_enforce, later_admits}
+use Rattle.guarantee.specs.Answered.{asked, Enforced}
+use Rattle.guarantee.proofs.Answered.{counting, enforced, nothing_some, none_some, none_enforce, two_enforce, later_admits}
 use Rattle.guarantee.specs.Single.{Alone}
 use Rattle.guarantee.proofs.Single.{alone}
 use Rattle.guarantee.specs.Demand3.{inputs, input_weights}

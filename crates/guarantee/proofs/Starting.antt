@@ -29,9 +29,11 @@ use Rattle.preserve.specs.Starts.{Lent, lent, accepted_start}
 use Rattle.preserve.specs.Encodes.{prepared_cases, still_built}
 use Rattle.guarantee.specs.Histories.Worlds.{Leads, here, World}
 use Rattle.guarantee.specs.Histories.Reached.{started_world, leads_world}
-use Rattle.guarantee.specs.Calls.{Memory, started, set_call, encode_call, lend_anew}
+use Rattle.guarantee.specs.Calls.{Memory, started, set_call, lend_anew}
 use Rattle.guarantee.specs.Words.Shows.{Shows, bare, kept_shows}
-use Rattle.guarantee.proofs.Words.Goes.{Encodes, encode_goes, read_is, same_ten, leads_then, start_shows}
+use Rattle.guarantee.specs.Words.Goes.{Encodes}
+use Rattle.guarantee.proofs.Words.Goes.{encode_goes, read_is, same_ten, leads_then, start_shows}
+use Rattle.guarantee.specs.Starting.{Unset, still, refused_set, an_encode, a_lend}
 
 -- what waits after a start: the largest of it is the heaviest input
 largest_queued : (k : ℕ) (ws : List ℕ) → largest (zip_with (λ (n w : ℕ). record { node = n; weight = w }) (rising (length ws) k) ws) ≡ heaviest ws
@@ -65,13 +67,6 @@ encode_unbuilt b lo end h = go (nothing_asked b lo end)
     go : (t : Bool) → (elim t as (λ x. Build) [ true ↦ b | false ↦ encode_outputs (prepared b) lo end ]).built ≡ 0 → b.built ≡ 0
     go true z = z
     go false z = absurd (prepared_built b h z)
-
--- what calls lead to from m where no set is accepted: refused sets, encodes, the used words moved to other slices
-pub data Unset (m : Memory) : Memory → Type 0 where
-  still : Unset m m
-  refused_set : {n : Memory} (d : ℕ) → Unset m n → set_refusal n.state n.store n.clauses d ≢ 0 → Unset m (set_call n d)
-  an_encode : {n : Memory} (work : List ℕ) (lo end : ℕ) → Unset m n → Unset m (encode_call n work lo end)
-  a_lend : {n : Memory} (words : List ℕ) (signed : List ℤ) → Unset m n → Unset m (lend_anew n words signed)
 
 module _ (lits : List ℤ) (weights : List ℕ) (first : ℕ) (store : List ℕ) (clauses : List ℤ) (accepted : start_refusal lits weights first store ≡ 0) where
   xs : List ℤ

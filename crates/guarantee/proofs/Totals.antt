@@ -20,7 +20,8 @@ use Rattle.guarantee.specs.Histories.Reached.{started_world, leads_world}
 use Rattle.guarantee.specs.Histories.Numbered.{Numbered, leads_numbered, new_numbered, leads_first}
 use Rattle.guarantee.specs.Calls.{Memory, started, encode_call, Run, next_encode}
 use Rattle.guarantee.specs.Words.Shows.{Shows}
-use Rattle.guarantee.proofs.Words.Goes.{Goes, run_goes, start_shows}
+use Rattle.guarantee.specs.Words.Goes.{Goes}
+use Rattle.guarantee.proofs.Words.Goes.{run_goes, start_shows}
 use Rattle.guarantee.proofs.Words.Reads.{shows_clauses}
 use Rattle.guarantee.specs.Totals.{Totals}
 

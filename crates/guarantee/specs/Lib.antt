@@ -8,6 +8,7 @@ pub mod Refinement
 pub mod Histories
 pub mod Promise
 pub mod Answers
+pub mod Answered
 pub mod Single
 pub mod Demand3
 pub mod Lines
@@ -16,3 +17,4 @@ pub mod Calls
 pub mod Words
 pub mod Admitted
 pub mod Totals
+pub mod Starting

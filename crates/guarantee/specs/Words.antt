@@ -1,2 +1,3 @@
--- Words against builds: what memory shows of a build.
+-- Words against builds: what memory shows of a build, where calls lead it.
 pub mod Shows
+pub mod Goes

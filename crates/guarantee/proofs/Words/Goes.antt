@@ -1,5 +1,5 @@
 -- Any run of calls on words goes along with accepted calls on the build that they show.
-use Rattle.std.specs.Prelude.{◌≡◌, ◌⊎◌, Bool, true, false, not, ◌&&◌, ℕ, zero, suc, eqb, take, ℤ}
+use Rattle.std.specs.Prelude.{◌≡◌, Bool, true, false, not, ◌&&◌, ℕ, zero, suc, eqb, take, ℤ}
 use Rattle.std.proofs.Math.Path.{refl, sym, ap, subst}
 use Rattle.std.proofs.Common.{◌∙◌, inl, inr, arith}
 use mathlib.Core.List.{List, ◌++◌}
@@ -22,19 +22,7 @@ use Rattle.guarantee.specs.Histories.Worlds.{Leads, here, then_set, then_encode,
 use Rattle.guarantee.specs.Histories.Reached.{leads_world}
 use Rattle.guarantee.specs.Calls.{Memory, started, set_call, encode_call, lend_anew, Run, none_yet, next_set, next_encode, next_lend}
 use Rattle.guarantee.specs.Words.Shows.{Shows, bare, shows_read, words_append, recounted_state, counts_kept, fresh_part, encode_listed, encode_counted, front_clauses, kept_shows}
-
--- a build that calls lead to, and memory that shows it
-pub record Goes (b : Build) (m : Memory) : Type 0 where
-  pub build : Build
-  pub leads : Leads b build
-  pub shows : Shows m build
-
--- what an encode leaves shows the build as it was, or the one that encode reaches
-pub record Encodes (b : Build) (lo end : ℕ) (m : Memory) : Type 0 where
-  pub build : Build
-  pub how : (build ≡ b) ⊎ (build ≡ encode b lo end)
-  pub leads : Leads b build
-  pub shows : Shows m build
+use Rattle.guarantee.specs.Words.Goes.{Goes, Encodes}
 
 -- tests that look at neither clauses nor their counts
 same_coarser : (n m : ℕ) (b : Build) (d : ℕ) → divisor_coarser (recounted n m (bare b)) d ≡ divisor_coarser b d
