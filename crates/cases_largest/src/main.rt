@@ -5,7 +5,7 @@
 ghost use Rattle.std.specs.Prelude.{◌≡◌, length};
 
 use std::io;
-use std::io::{BufWriter, Write};
+use std::io::Write;
 
 fn blank_text() -> [u8; 65536]
     ensures { 65536 ≡ length result }
@@ -33,7 +33,7 @@ fn main(rt: HostRuntime) -> io::Result<()> {
     let mut work = [0u32; 16384];
     let mut store = [0u32; 232000];
     let mut clauses = [0i32; 1640000];
-    let mut out = BufWriter::new(rt.alloc(), io::writer(&rt))?;
+    let mut out = io::writer(&rt);
     let n = history_play::read_text(&mut rt.reader(), &mut text)?;
     run(
         &mut out,
@@ -43,6 +43,5 @@ fn main(rt: HostRuntime) -> io::Result<()> {
         &mut store,
         &mut clauses,
         &mut work,
-    )?;
-    out.flush()
+    )
 }

@@ -11,7 +11,7 @@ ghost use Rattle.std.specs.Prelude.{◌≡◌, ◌<◌, length};
 use records::Marks;
 use records_append::Made;
 use std::io;
-use std::io::{BufWriter, Write};
+use std::io::Write;
 
 // Nothing used, and the first fresh number.
 fn blank_marks(fresh: u32) -> Marks {
@@ -150,8 +150,7 @@ fn merged<W: Write>(out: &mut W) -> io::Result<()> {
 }
 
 fn main(rt: HostRuntime) -> io::Result<()> {
-    let mut out = BufWriter::new(rt.alloc(), io::writer(&rt))?;
+    let mut out = io::writer(&rt);
     worked(&mut out)?;
-    merged(&mut out)?;
-    out.flush()
+    merged(&mut out)
 }

@@ -14,7 +14,7 @@ use Rattle.guarantee.specs.Promise.{sum_of, Admits}
 use Rattle.guarantee.specs.Meaning.Derived.{literal, Claimed, every, Claim, found, output_holds, meant, meant_apart, meant_at, meant_sat}
 use Rattle.guarantee.specs.Counting.Chains.{tare_sum}
 use Rattle.guarantee.specs.Counting.Tares.{tares_least, tares_exact, tared, tared_apart, tared_bits, bits_same}
-use Rattle.guarantee.specs.Answers.{Counting, answer_of}
+use Rattle.guarantee.specs.Answers.{Counting, tared_answer}
 
 pub sum_agree : (d : ℕ) (t u : Truths) (xs : List ℤ) (ws : List ℕ) → All (λ x. t x ≡ u x) xs → sum_of xs ws d t ≡ sum_of xs ws d u
 sum_agree d t u [] ws a = refl
@@ -44,11 +44,11 @@ module _ (xs : List ℤ) (ws : List ℕ) (d : ℕ) (s : Arena) (root : ℕ) (tar
   literal_is = rw (claim.kind_is, defined) refl
 
   answer : List ℤ
-  answer = answer_of tares x number
+  answer = tared_answer tares x number
 
   -- an assignment that the clauses and the answer allow keeps the bound
   admits_only : (α : Assign) → Admits xs s.clauses answer α → sum_of xs ws d (holds α) + x < suc j * 2 ^ length tares
-  unfolding answer answer_of rs
+  unfolding answer tared_answer rs
   admits_only α a = go (leb (suc j) (value (node_at rs) (holds a.all) root)) refl
     where
       sums : sum_of xs ws d (holds a.all) ≡ sum_of xs ws d (holds α)
@@ -71,7 +71,7 @@ module _ (xs : List ℤ) (ws : List ℕ) (d : ℕ) (s : Arena) (root : ℕ) (tar
 
   -- and every input assignment within it is allowed
   admits_all : (α : Assign) → sum_of xs ws d (holds α) + x < suc j * 2 ^ length tares → Admits xs s.clauses answer α
-  unfolding answer answer_of rs number_of
+  unfolding answer tared_answer rs number_of
   admits_all α h = record {
     all = ρ;
     agrees = agrees;
@@ -107,5 +107,5 @@ module _ (xs : List ℤ) (ws : List ℕ) (d : ℕ) (s : Arena) (root : ℕ) (tar
           (meant_at rs (place rs) c.sound s.clauses every c.told.means α') (omega arith))
 
   pub admits : (α : Assign) → Admits xs s.clauses (neg_ℤ (pos number) ∷ set_tares tares x) α ↔ (sum_of xs ws d (holds α) + x < suc j * 2 ^ length tares)
-  unfolding answer answer_of
+  unfolding answer tared_answer
   admits α = (admits_only α, admits_all α)

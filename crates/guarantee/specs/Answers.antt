@@ -25,5 +25,5 @@ pub record Counting (xs : List ℤ) (ws : List ℕ) (d : ℕ) (s : Arena) (root 
   pub tares_apart : All (λ u. All (λ o. u ≢ o.number) (outputs s.records)) tares
 
 -- the answer that asks for at most j in units of the root and sets the tares to x: the output's number negated, then the tares
-unfoldable pub answer_of : List ℕ → ℕ → ℕ → List ℤ
-answer_of tares x number = neg_ℤ (pos number) ∷ set_tares tares x
+unfoldable pub tared_answer : List ℕ → ℕ → ℕ → List ℤ
+tared_answer tares x number = neg_ℤ (pos number) ∷ set_tares tares x

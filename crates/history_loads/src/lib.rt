@@ -1,6 +1,6 @@
-// What an answer means, on standard output: the role of each of its literals, and which assignments of the inputs are admitted by
+// What an answer means, written to a writer: the role of each of its literals, and which assignments of the inputs are admitted by
 // clauses and answer. A clause has at most one literal that is neither negated nor an input's, so the assignment with the fewest
-// other variables true decides.
+// other variables true decides. A write that fails ends it with its error, and no other error comes.
 #![tactic(auto)]
 
 use rules::State;

@@ -22,13 +22,15 @@
 // words, of the others, of the work slice. After enforce: the refusal number or 0, how many literals, their words, count and
 // digest of a scratch of 20 that held 7, whose first SCRATCH words were lent. A clause word is printed and digested as its
 // literal's word. A digest goes through the words in order: h = (16777619 h + w) mod 4294967291, from 0.
+//
+// A read or a write that fails ends it with its error, and no other error comes; what was lent is then as the calls so far left it.
 #![tactic(auto)]
 
 ghost use Rattle.std.specs.Prelude.{◌≡◌, ◌<◌, ◌≤◌, length, IfOk};
 
 use rules::{Coarse, Maximum, Precision, State};
 use std::io;
-use std::io::{BufWriter, Read, Write};
+use std::io::{Read, Write};
 
 // What a history has come to: the state, how many literals and weights were named, how many words are lent.
 #[derive(Clone, Copy)]
@@ -596,14 +598,14 @@ pub fn read_text<R: Read>(input: &mut R, text: &mut [u8]) -> io::Result<usize>
 
 // The histories of standard input, over lists with room for 257 inputs, 3,000 records and 50,000 clause words. Grows as the
 // calls do.
-pub fn play_input<R: Input + Print + AllocGlobal>(rt: &R) -> io::Result<()> {
+pub fn play_input<R: Input + Print>(rt: &R) -> io::Result<()> {
     let mut text = blank_text();
     let mut lits = [0i32; rules::MOST_INPUTS + 1];
     let mut weights = [0u64; rules::MOST_INPUTS + 1];
     let mut work = [0u32; rules::WORK_WORDS];
     let mut store = [0u32; 24000];
     let mut clauses = [0i32; 50000];
-    let mut out = BufWriter::new(rt.alloc(), io::writer(rt))?;
+    let mut out = io::writer(rt);
     let n = read_text(&mut rt.reader(), &mut text)?;
     play_over(
         &mut out,
@@ -613,6 +615,5 @@ pub fn play_input<R: Input + Print + AllocGlobal>(rt: &R) -> io::Result<()> {
         &mut store,
         &mut clauses,
         &mut work,
-    )?;
-    out.flush()
+    )
 }

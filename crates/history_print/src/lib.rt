@@ -1,4 +1,4 @@
-// Numbers, words, states and digests on standard output.
+// Numbers, words, states and digests, written to a writer. A write that fails ends the printing with its error, and no other error comes.
 #![tactic(auto)]
 
 use rules::{Answer, State};

@@ -20,7 +20,7 @@ use Rattle.rules.specs.Totalizer.{counts}
 use Rattle.node_structs.specs.declared.Node.{Node}
 use Rattle.node_structs.specs.Nodes.{node_of, node_in, Copies, former_half_in}
 use Rattle.node_structs.specs.contracts.copy_nodes as copy-nodes
-use Rattle.node_structs.specs.contracts.node_at as Node-at
+use Rattle.node_structs.specs.contracts.node_at as node-at
 use Rattle.node_structs.specs.contracts.counted_at as counted-at
 use Rattle.node_structs.specs.contracts.former_half as former_half
 
@@ -30,8 +30,8 @@ module _ {M : Type 1} {𝓤 : Ura M} (𝓛 : Logic 𝓤) (mem : Memory → SProp
       (copy-nodes.clauses 𝓛 mem run κs a).ensures tt r e ≡ fact 𝓤 (Copies a.0.now e.0.now a.1.0.now a.1.1.0 r)
   copy_nodes_says κs a r e = refl
 
-  pub node_at_says : (κs : Lfts 1) (a : Args Node-at.signature κs) (r : Res Node-at.signature κs) (e : AtExit Node-at.ended κs) →
-      (Node-at.clauses 𝓛 mem run κs a).ensures tt r e ≡ fact 𝓤 (r ≡ node_in a.0.now a.1.0)
+  pub node_at_says : (κs : Lfts 1) (a : Args node-at.signature κs) (r : Res node-at.signature κs) (e : AtExit node-at.ended κs) →
+      (node-at.clauses 𝓛 mem run κs a).ensures tt r e ≡ fact 𝓤 (r ≡ node_in a.0.now a.1.0)
   node_at_says κs a r e = refl
 
   pub counted_at_says : (κs : Lfts 1) (a : Args counted-at.signature κs) (r : Res counted-at.signature κs) (e : AtExit counted-at.ended κs) →

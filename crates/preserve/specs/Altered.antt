@@ -1,4 +1,4 @@
--- Why accepted-encode asks that the next fresh number be above every input variable: an altered state that is well formed although it
+-- Why accepted_encode asks that the next fresh number be above every input variable: an altered state that is well formed although it
 -- is not, since no number was taken yet; the encode is accepted and takes the number of an input.
 use Rattle.std.specs.Prelude.{◌≡◌, refl, true, false, [], ◌∷◌, replicate, pos}
 use Rattle.rules.specs.declared.State.{State}

@@ -14,7 +14,7 @@ use Rattle.records.proofs.field.Reads as field
 use Rattle.records.proofs.is_node.Kinds as is-node-kinds
 use Rattle.records.proofs.is_node.Reads as is_node
 use Rattle.records.proofs.is_leaf.Kinds as is-leaf-kinds
-use Rattle.records.proofs.is_leaf.Reads as is_IsLeaf
+use Rattle.records.proofs.is_leaf.Reads as is_leaf
 use Rattle.records.proofs.is_join.Kinds as is-join-kinds
 use Rattle.records.proofs.is_join.Reads as is_join
 use Rattle.records.proofs.is_dummy.Kinds as is-dummy-kinds
@@ -61,7 +61,7 @@ pub is_node_determined : (κs : Lfts 1) (a : Dens κs is-node-kinds.ps) (x y : (
 is_node_determined κs a x y e f p q rs h = p rs h ∙ sym (q rs h)
 
 pub is_leaf_determined : (κs : Lfts 1) (a : Dens κs is-leaf-kinds.ps) (x y : (res_t is-leaf-kinds.r κs).Denot) (e f : AtExit (ended_of 1 is-leaf-kinds.ps is-leaf-kinds.r) κs) →
-    is_IsLeaf.Post κs a x e → is_IsLeaf.Post κs a y f → (rs : List Record) → Stores a.0.now a.1.0 rs → x ≡ y
+    is_leaf.Post κs a x e → is_leaf.Post κs a y f → (rs : List Record) → Stores a.0.now a.1.0 rs → x ≡ y
 is_leaf_determined κs a x y e f p q rs h = p rs h ∙ sym (q rs h)
 
 pub is_join_determined : (κs : Lfts 1) (a : Dens κs is-join-kinds.ps) (x y : (res_t is-join-kinds.r κs).Denot) (e f : AtExit (ended_of 1 is-join-kinds.ps is-join-kinds.r) κs) →

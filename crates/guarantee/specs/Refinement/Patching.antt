@@ -25,7 +25,7 @@ abbrev pub former : List Record → List ℕ → ℕ → Asked
 former rs B fresh o b = o.number < fresh → 1 ≤ occurs o.node B → b ≤ former_half rs o.node
 
 module _ (rs : List Record) (B : List ℕ) (below : ℕ) (sound : Sound (node_at rs) (place rs)) (spares : Spares (node_at rs) B)
-    (below-there : place rs below ≡ true) (below_Apart : occurs below B ≡ 0) (R : List Record) (c : Climbed rs B below sound spares below-there below_Apart B R)
+    (below_there : place rs below ≡ true) (below_apart : occurs below B ≡ 0) (R : List Record) (c : Climbed rs B below sound spares below_there below_apart B R)
     (linked : Linked (node_at rs) true B) where
   -- a bucket before and after: the same left; the same right with no less a maximum, or a dummy before
   pub record Moved (n : ℕ) : Type 0 where
@@ -48,7 +48,7 @@ module _ (rs : List Record) (B : List ℕ) (below : ℕ) (sound : Sound (node_at
   unfolding occurs
   none_in n o = omega arith
 
-  moved_in : (bs : List ℕ) → Linked (node_at rs) true bs → Steps rs B below sound spares below-there below_Apart R bs → (n : ℕ) → 1 ≤ occurs n bs → Moved n
+  moved_in : (bs : List ℕ) → Linked (node_at rs) true bs → Steps rs B below sound spares below_there below_apart R bs → (n : ℕ) → 1 ≤ occurs n bs → Moved n
   unfolding left_link
   moved_in [] h s n o = absurd (none_in n o)
   moved_in (b ∷ []) (l, r, e, d) s n o =

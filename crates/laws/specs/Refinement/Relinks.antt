@@ -83,7 +83,7 @@ linked_rest at wait b [] h = tt
 linked_rest at wait b (c ∷ bs) h = h.1
 
 module _ (rs : List Record) (B : List ℕ) (below : ℕ) (sound : Sound (node_at rs) (place rs)) (spares : Spares (node_at rs) B)
-    (below-there : place rs below ≡ true) (below_Apart : occurs below B ≡ 0) where
+    (below_there : place rs below ≡ true) (below_apart : occurs below B ≡ 0) where
   abbrev left_of : ℕ → ℕ
   left_of b = left_link (node_at rs b).kind
 
@@ -170,9 +170,9 @@ module _ (rs : List Record) (B : List ℕ) (below : ℕ) (sound : Sound (node_at
       let l_is : left_of b ≡ l = ap left_link k in
       let e : (node_at rs (left_of b)).maximum ≡ (node_at rs l).maximum = ap (λ n. (node_at rs n).maximum) l_is in
       record {
-        next_there = below-there;
+        next_there = below_there;
         next_most = omega (arith, (sound below).within, ap (λ (x : Node). x.maximum) (c.same below (nothing below)));
-        next_other = apart_of below b below_Apart mem;
+        next_other = apart_of below b below_apart mem;
         enough = omega arith;
       }
     where
@@ -236,7 +236,7 @@ module _ (rs : List Record) (B : List ℕ) (below : ℕ) (sound : Sound (node_at
             ruled = subst (λ (x : Node). Ruled (node_at R') (place R') x) (sym at_b) ruled';
             grows = rw at_b (omega (arith, sum, u.enough));
           },
-          steps_set R b nd b_there bs out (apart_of below b below_Apart mem) mem joins.1 c.steps,
+          steps_set R b nd b_there bs out (apart_of below b below_apart mem) mem joins.1 c.steps,
         );
       }
     where

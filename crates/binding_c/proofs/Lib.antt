@@ -1,0 +1,2 @@
+-- Lemmas of the exports.
+pub mod Determined
