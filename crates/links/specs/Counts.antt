@@ -8,7 +8,7 @@ use Prim.Native.Nat.{ℕ, zero, suc, ◌+◌, ◌≤◌, ◌<◌}
 use native.Mathlib.Omega.{arith}
 use Rattle.std.proofs.Math.ListN.{length, length-append, get_or}
 use Rattle.std.proofs.Math.Seq.{get_or-append_seam}
-use Rattle.links.specs.Links.{View, a_node, an_output, neither, Slot, root, next, same_slot, Links, none, put, hit, sees_node, links_of}
+use Rattle.links.specs.Links.{View, a_node, an_output, neither, Slot, root, next, same_slot, Links, put, hit, sees_node, links_of}
 use Rattle.links.specs.Slots.{sees_output, stands, has, owner, low}
 use Rattle.links.specs.Walks.{Sure}
 use Rattle.links.specs.Turns.{snoc_ind, slot_true, slot_self, put_there, Turn, other, away, twice, hung, sure_links, links_turn, next_empty, new_empty}

@@ -4,7 +4,7 @@ use Rattle.std.proofs.Common.{sym, ◌∙◌, ap, inl, inr, ⊎_elim, append-nil
 use Rattle.std.proofs.Math.Path.{fun_ext}
 use Rattle.std.proofs.lemmas.Bool.{lt-leb}
 use Rattle.links.specs.Links.{View, Slot, same_slot, Links, put, links_of}
-use Rattle.links.specs.Slots.{up_to, cut, low}
+use Rattle.links.specs.Slots.{up_to, cut}
 use Rattle.links.specs.Walks.{Sure, output_inside}
 use Rattle.links.specs.Turns.{slot_true, put_here, put_there, Turn, other, away, twice, hung, sure_links, links_turn}
 

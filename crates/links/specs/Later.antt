@@ -2,12 +2,11 @@
 use Rattle.std.specs.Prelude.{◌≡◌, refl, ◌≢◌, Bool, true, false, cond, ◌&&◌, eqb}
 use Rattle.std.proofs.Common.{sym, ◌∙◌, ap, arith, eqb-true, eq-eqb}
 use Rattle.std.proofs.Math.Path.{subst}
-use mathlib.Core.List.{List, [], ◌∷◌, ◌++◌, map}
+use mathlib.Core.List.{List, [], ◌∷◌, ◌++◌}
 use Prim.Native.Nat.{ℕ, zero, suc, ◌≤◌, ◌<◌}
-use Rattle.std.proofs.lemmas.Bool.{eqb-false}
 use Rattle.rules.specs.Lists.{in_turn}
-use Rattle.rules.specs.Records.{Kind, leaf, join, dummy, Node, Output, Record, output, node_at, outputs}
-use Rattle.rules.specs.Totalizer.{Arena, counts, asks, write, take_number, Define, ask, ask_pair, define_join, define_kind, define, pairs, number_in, number_of}
+use Rattle.rules.specs.Records.{Kind, leaf, join, dummy, Node, Output, output, node_at, outputs}
+use Rattle.rules.specs.Totalizer.{Arena, counts, write, take_number, Define, ask, ask_pair, define_join, define_kind, define, pairs, number_in, number_of}
 use Rattle.laws.specs.Lists.Facts.{All, All_append}
 use Rattle.laws.specs.Records.Places.{outputs_append, number_in_append, number_in_kept}
 use Rattle.laws.specs.Records.Images.{number_of_append}

@@ -11,7 +11,7 @@ use Rattle.std.proofs.Math.ListN.{length, get_or, get_or-append}
 use Rattle.std.proofs.Math.Seq.{get_or-append_seam, split_at}
 use Rattle.links.specs.Links.{View, a_node, an_output, neither, Slot, root, next, same_slot, Links, put, none, found, ended, hit, hits, sees_node, links_of, links_from}
 use Rattle.laws.specs.Lists.Facts.{and_true}
-use Rattle.links.specs.Slots.{cut, sees_output, low}
+use Rattle.links.specs.Slots.{cut, sees_output}
 use Rattle.links.specs.Walks.{Leads, ends, finds, goes, leads_one, output_inside, hit_inside}
 use Rattle.links.specs.Turns.{slot_true, slot_self, put_here, put_there, put_cases, Turn, other, away, twice, hung, sure_links, links_turn}
 use Rattle.links.specs.Finds.{Lower, hits_key}

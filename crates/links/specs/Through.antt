@@ -1,14 +1,14 @@
 -- The first missing side may be defined first: what defining leads to is the same.
 use Rattle.std.specs.Prelude.{◌≡◌, ◌⊎◌, Bool, cond}
 use Rattle.std.proofs.Math.Path.{refl, sym, ap}
-use Rattle.std.proofs.Common.{◌∙◌, ap₂, subst, inl, inr, arith}
+use Rattle.std.proofs.Common.{◌∙◌, subst, inl, inr, arith}
 use Rattle.std.proofs.Math.Bool.{true, false}
 use Rattle.std.proofs.lemmas.Bool.{false≢true}
 use mathlib.Core.List.{List, [], ◌∷◌}
 use Prim.Native.Nat.{ℕ, zero, suc, ◌≤◌, ◌<◌, ◌-◌}
 use Rattle.rules.specs.Lists.{in_turn}
 use Rattle.rules.specs.Records.{Kind, leaf, join, dummy, Node, Record, node_at}
-use Rattle.rules.specs.Totalizer.{Arena, counts, write, take_number, Define, ask, ask_pair, define_join, define_kind, define, pairs, number_of}
+use Rattle.rules.specs.Totalizer.{Arena, counts, write, take_number, Define, ask, define_join, define_kind, define, pairs, number_of}
 use Rattle.laws.specs.Lists.Facts.{All, All_map}
 use Rattle.links.specs.Missing.{sides, asking, lacks, missing, wanting, rest, asked, wants, put, Below, here, further, Ends}
 use Rattle.links.specs.Later.{Falls, Ready, Later, later_same, later_then, later_higher, take_found, ready_write, ready_define, later_define, pairs_sides, all_sides, later_turns}
