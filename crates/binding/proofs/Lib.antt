@@ -1,4 +1,2 @@
--- Each exported function answers as the call that it makes.
-pub mod Values
-pub mod Ends
+-- The promises of the exported functions.
 pub mod Determined

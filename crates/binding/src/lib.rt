@@ -9,9 +9,9 @@ ghost use Rattle.rules.specs.Precision.{set_precision, next_precision, is_max_pr
 ghost use Rattle.rules.specs.Encode.{encode_ub_change};
 ghost use Rattle.rules.specs.Enforce.{enforce_ub};
 ghost use Rattle.rules.specs.Coarse.{coarse_ub};
-ghost use Rattle.binding.specs.Held.{started, set_to, divisor_value, yes_value, bound_value, encoded};
+ghost use Rattle.binding.specs.Held.{started, set_to, number_value, yes_value, encoded};
 
-use rules::{Answer, Coarse, Maximum, Precision, State};
+use rules::{Refusal, Set, Started, State};
 
 // What start and set_precision answer: the refusal number, else 0, and the state.
 #[repr(C)]
@@ -40,64 +40,77 @@ pub struct Value {
 }
 
 // The number of an answer. Constant time.
-fn answer_number(a: Answer) -> u32
-    ensures { result ≡ answer_number a }
+#[tactic(auto, unfolding(rules::specs::Refusals::answer_number))]
+fn answer_number(answer: Result<(), Refusal>) -> u32
+    ensures { result ≡ answer_number answer }
 {
-    match a {
-        Answer::Accepted => 0,
-        Answer::Refused(n) => n,
+    match answer {
+        Ok(()) => 0,
+        Err(refusal) => refusal.number(),
     }
 }
 
-// An answer's refusal number and divisor. Constant time.
-fn precision_value(p: Precision) -> Value
-    ensures { result ≡ divisor_value p }
-{
-    match p {
-        Precision::Divisor(d) => Value {
-            refusal: 0,
-            value: d,
-        },
-        Precision::Refused(n) => Value {
-            refusal: n,
-            value: 0,
-        },
+impl From<Started> for Answered {
+    ghost from_gives = { λ r a. a ≡ started r };
+
+    #[tactic(auto, unfolding(crate::specs::Held::started))]
+    fn from(r: Started) -> Answered {
+        Answered {
+            refusal: answer_number(r.answer),
+            state: r.state,
+        }
     }
 }
 
-// An answer's refusal number, and 1 for yes. Constant time.
-fn maximum_value(m: Maximum) -> Value
-    ensures { result ≡ yes_value m }
-{
-    match m {
-        Maximum::Yes => Value {
-            refusal: 0,
-            value: 1,
-        },
-        Maximum::No => Value {
-            refusal: 0,
-            value: 0,
-        },
-        Maximum::Refused(n) => Value {
-            refusal: n,
-            value: 0,
-        },
+impl From<Set> for Answered {
+    ghost from_gives = { λ r a. a ≡ set_to r };
+
+    #[tactic(auto, unfolding(crate::specs::Held::set_to))]
+    fn from(r: Set) -> Answered {
+        Answered {
+            refusal: answer_number(r.answer),
+            state: r.state,
+        }
     }
 }
 
-// An answer's refusal number and bound. Constant time.
-fn coarse_value(c: Coarse) -> Value
-    ensures { result ≡ bound_value c }
-{
-    match c {
-        Coarse::Bound(u) => Value {
-            refusal: 0,
-            value: u,
-        },
-        Coarse::Refused(n) => Value {
-            refusal: n,
-            value: 0,
-        },
+impl From<rules::Encoded> for Encoded {
+    ghost from_gives = { λ r e. e ≡ encoded r };
+
+    #[tactic(auto, unfolding(crate::specs::Held::encoded))]
+    fn from(r: rules::Encoded) -> Encoded {
+        Encoded {
+            refusal: answer_number(r.answer),
+            variables: r.variables,
+            clauses: r.clauses,
+            state: r.state,
+        }
+    }
+}
+
+// A divisor or a bound.
+impl From<Result<u64, Refusal>> for Value {
+    ghost from_gives = { λ r v. v ≡ number_value r };
+
+    #[tactic(auto, unfolding(crate::specs::Held::number_value, rules::specs::Refusals::answer_number, rules::specs::Refusals::answer_value))]
+    fn from(answer: Result<u64, Refusal>) -> Value {
+        match answer {
+            Ok(value) => Value { refusal: 0, value },
+            Err(refusal) => Value {
+                refusal: refusal.number(),
+                value: 0,
+            },
+        }
+    }
+}
+
+// 1 for yes.
+impl From<Result<bool, Refusal>> for Value {
+    ghost from_gives = { λ r v. v ≡ yes_value r };
+
+    #[tactic(auto, unfolding(crate::specs::Held::number_value, crate::specs::Held::yes_value, rules::specs::Refusals::answer_number, rules::specs::Refusals::answer_value))]
+    fn from(answer: Result<bool, Refusal>) -> Value {
+        Value::from(answer.map(u64::from))
     }
 }
 
@@ -112,12 +125,7 @@ pub fn tweedpillar_start(
     ensures { (result ≡ started (start lits.now weights.now first store.old clauses.old).answer) × (store.new ≡ (start lits.now weights.now first store.old clauses.old).store) × (clauses.new ≡ (start lits.now weights.now first store.old clauses.old).clauses) }
 {
     let r = watchdog_start::start(lits, weights, first, store, clauses);
-    let answer = r.answer;
-    let state = r.state;
-    Answered {
-        refusal: answer_number(answer),
-        state,
-    }
+    Answered::from(r)
 }
 
 // set_precision.
@@ -125,20 +133,15 @@ pub fn tweedpillar_set_precision(s: State, store: &[u32], clauses: &[i32], divis
     ensures { result ≡ set_to (set_precision s store.now clauses.now divisor) }
 {
     let r = watchdog_precision::set_precision(s, store, clauses, divisor);
-    let answer = r.answer;
-    let state = r.state;
-    Answered {
-        refusal: answer_number(answer),
-        state,
-    }
+    Answered::from(r)
 }
 
 // next_precision: the divisor.
 pub fn tweedpillar_next_precision(s: State, store: &[u32], clauses: &[i32]) -> Value
-    ensures { result ≡ divisor_value (next_precision s store.now clauses.now) }
+    ensures { result ≡ number_value (next_precision s store.now clauses.now) }
 {
     let p = watchdog_precision::next_precision(s, store, clauses);
-    precision_value(p)
+    Value::from(p)
 }
 
 // is_max_precision: 1 for yes, 0 for no.
@@ -146,7 +149,7 @@ pub fn tweedpillar_is_max_precision(s: State, store: &[u32], clauses: &[i32]) ->
     ensures { result ≡ yes_value (is_max_precision s store.now clauses.now) }
 {
     let m = watchdog_precision::is_max_precision(s, store, clauses);
-    maximum_value(m)
+    Value::from(m)
 }
 
 // encode_ub_change.
@@ -161,14 +164,7 @@ pub fn tweedpillar_encode_ub_change(
     ensures { (result ≡ encoded (encode_ub_change s store.old clauses.old work.old lo end).answer) × (store.new ≡ (encode_ub_change s store.old clauses.old work.old lo end).store) × (clauses.new ≡ (encode_ub_change s store.old clauses.old work.old lo end).clauses) × (work.new ≡ (encode_ub_change s store.old clauses.old work.old lo end).work) }
 {
     let r = watchdog_encode::encode_ub_change(s, store, clauses, work, lo, end);
-    let answer = r.answer;
-    let state = r.state;
-    Encoded {
-        refusal: answer_number(answer),
-        variables: r.variables,
-        clauses: r.clauses,
-        state,
-    }
+    Encoded::from(r)
 }
 
 // enforce_ub: how many words at the front of the scratch are the answer.
@@ -187,8 +183,8 @@ pub fn tweedpillar_enforce_ub(
 
 // coarse_ub: the bound.
 pub fn tweedpillar_coarse_ub(s: State, store: &[u32], clauses: &[i32], u: u64) -> Value
-    ensures { result ≡ bound_value (coarse_ub s store.now clauses.now u) }
+    ensures { result ≡ number_value (coarse_ub s store.now clauses.now u) }
 {
     let c = watchdog_precision::coarse_ub(s, store, clauses, u);
-    coarse_value(c)
+    Value::from(c)
 }

@@ -1,10 +1,12 @@
--- A padded list with its first free slot filled.
-use mathlib.Core.Path.{◌≡◌, refl, sym, ap, ◌∙◌}
-use mathlib.Core.List.{List, [], ◌∷◌, ◌++◌, append_assoc}
+-- A padded list with its free slots filled from the front.
+use mathlib.Core.Path.{◌≡◌, refl, sym, ap, ap₂, ◌∙◌}
+use mathlib.Core.List.{List, [], ◌∷◌, ◌++◌, append-nil, append_assoc}
 use Prim.Native.Nat.{ℕ, zero, suc, ◌+◌, ◌-◌, ◌≤◌, ◌<◌}
 use native.Mathlib.Omega.{arith}
-use lib.ListN.{length, get_or, take, drop, set, replicate, length-append, length-drop}
-use lib.Seq.{take-suc, length-take-le, get_or-drop}
+use lib.ListN.{length, take, drop, set, replicate, length-append}
+use lib.Seq.{take_at, drop_at, length-take-le}
+use borrow.Rule.Slice.PartMut.{put_mid, post_of}
+use Rattle.std.proofs.lemmas.List.{take-replicate, drop-replicate}
 use Rattle.rules.specs.Lists.{rising, padded}
 use Rattle.laws.specs.Lists.Facts.{rising_length}
 
@@ -33,32 +35,47 @@ rising_more (suc n) k =
     ap (λ ys. k ∷ ys) (ap (λ (j : ℕ). rising n (suc k) ++ (j ∷ [])) (sums n k).1 ∙ (rising_more n (suc k) ∙ ap (λ (j : ℕ). rising j (suc k)) (sums n k).2)) ∙
     ap (λ (j : ℕ). rising j k) (sums n k).3
 
-pub fresh_start : (first : ℕ) → replicate 19 0 ≡ padded 0 19 (rising 0 first)
+-- the first `many` slots, none of them filled
+pub fresh_start : (many first : ℕ) → many ≤ 19 → take many (replicate 19 0) ≡ padded 0 many (rising 0 first)
 unfolding padded rising
-fresh_start first = refl
+fresh_start many first h =
+    let all : many ≡ many - 0 = omega arith in
+    take-replicate {X = ℕ} many 19 0 h ∙ ap (λ (j : ℕ). replicate j 0) all
 
-pub fresh_end : (first many i : ℕ) (xs : List ℕ) → i ≤ many → many ≤ i → xs ≡ padded 0 19 (rising i first) → xs ≡ padded 0 19 (rising many first)
-fresh_end first many i xs h k p = let e : i ≡ many = omega arith in p ∙ ap (λ (j : ℕ). padded 0 19 (rising j first)) e
+pub slots_length : (many : ℕ) → many ≤ 19 → length (take many (replicate {A = ℕ} 19 0)) ≡ many
+slots_length many h = length-take-le {A = ℕ} many (replicate 19 0) h
 
-pub fresh_turn : (first i : ℕ) (xs : List ℕ) → i < 19 → xs ≡ padded 0 19 (rising i first) → set xs i (first + i) ≡ padded 0 19 (rising (i + 1) first)
-fresh_turn first i xs h p =
-    put_at 19 i xs (rising i first) (first + i) (rising_length i first) h p ∙ ap (padded 0 19) (rising_more i first)
+pub fresh_turn : (many first i : ℕ) (xs : List ℕ) → i < many → xs ≡ padded 0 many (rising i first) → set xs i (first + i) ≡ padded 0 many (rising (i + 1) first)
+fresh_turn many first i xs h p =
+    put_at many i xs (rising i first) (first + i) (rising_length i first) h p ∙ ap (padded 0 many) (rising_more i first)
 
-pub append_turn : (n many i : ℕ) (xs old out : List ℕ) → length xs ≡ many → i < length old → many + i < n → out ≡ padded 0 n (xs ++ take i old) →
-    set out (many + i) (get_or old i 0) ≡ padded 0 n (xs ++ take (i + 1) old)
-append_turn n many i xs old out l h k p =
-    let plus : suc i ≡ i + 1 = omega arith in
-    put_at n (many + i) out (xs ++ take i old) (get_or old i 0)
-    (omega (arith, length-append xs (take i old), length-take-le i old (omega arith))) k p ∙
-    ap (padded 0 n) (append_assoc xs (take i old) (get_or old i 0 ∷ []) ∙
-    ap (λ ys. xs ++ ys) (sym (take-suc old i 0 h) ∙ ap (λ (j : ℕ). take j old) plus))
+-- all of them filled, before the others
+pub fresh_end : (many first i : ℕ) (xs : List ℕ) → many ≤ 19 → i ≡ many → xs ≡ padded 0 many (rising i first) → xs ++ drop many (replicate 19 0) ≡ padded 0 19 (rising many first)
+unfolding padded
+fresh_end many first i xs h e p =
+    let l = rising_length many first in
+    let none : many - length (rising many first) ≡ 0 = omega (arith, l) in
+    let rest : 19 - many ≡ 19 - length (rising many first) = omega (arith, l) in
+    ap₂ (λ (ys zs : List ℕ). ys ++ zs)
+    (p ∙ (ap (λ (j : ℕ). padded 0 many (rising j first)) e ∙ (ap (λ (j : ℕ). rising many first ++ replicate j 0) none ∙ append-nil (rising many first))))
+    (drop-replicate {X = ℕ} many 19 0 ∙ ap (λ (j : ℕ). replicate j 0) rest)
 
--- the same, from the words at a place on
-pub words_turn : (n many i from : ℕ) (xs ws out : List ℕ) → length xs ≡ many → from + i < length ws → many + i < n →
-    out ≡ padded 0 n (xs ++ take i (drop from ws)) → set out (many + i) (get_or ws (from + i) 0) ≡ padded 0 n (xs ++ take (i + 1) (drop from ws))
-words_turn n many i from xs ws out l h k p =
-    ap (set out (many + i)) (sym (get_or-drop from ws i 0)) ∙
-    append_turn n many i xs (drop from ws) out l (omega (arith, length-drop from ws)) k p
+-- more numbers behind those of a padded list
+pub appended : (n many : ℕ) (xs ys zs out : List ℕ) → length xs ≡ many → many + length ys ≤ n → out ≡ padded 0 n xs → zs ≡ ys →
+    put_mid many (many + length ys - many) out zs ≡ padded 0 n (xs ++ ys)
+unfolding padded
+appended n many xs ys zs out l h p e = ap (put_mid many (many + length ys - many) out) e ∙ ap₂ (λ (a b : List ℕ). a ++ (ys ++ b)) front back ∙ sym (append_assoc xs ys (replicate (n - length (xs ++ ys)) 0))
+  where
+    zeros : List ℕ
+    zeros = replicate (n - length xs) 0
 
-pub append_end : (n used i : ℕ) (xs old out : List ℕ) → i ≤ used → used ≤ i → out ≡ padded 0 n (xs ++ take i old) → out ≡ padded 0 n (xs ++ take used old)
-append_end n used i xs old out h k p = let e : i ≡ used = omega arith in p ∙ ap (λ (j : ℕ). padded 0 n (xs ++ take j old)) e
+    front : take many out ≡ xs
+    front = ap (take many) p ∙ take_at xs zeros many l
+
+    back : post_of many (many + length ys - many) out ≡ replicate (n - length (xs ++ ys)) 0
+    back =
+        let k : many + length ys - many ≡ length ys = omega arith in
+        let rest : n - length xs - length ys ≡ n - length (xs ++ ys) = omega (arith, length-append xs ys) in
+        ap₂ (λ (j : ℕ) (z : List ℕ). drop j (drop many z)) k p ∙
+        (ap (drop (length ys)) (drop_at xs zeros many l) ∙
+        (drop-replicate (length ys) (n - length xs) 0 ∙ ap (λ (j : ℕ). replicate j 0) rest))

@@ -10,7 +10,7 @@ use contract.Lifetimes.{Lfts}
 use Rattle.rules.specs.Records.{Record, Entry, waiting, waits}
 use Rattle.rules.specs.Build.{Build}
 use Rattle.laws.specs.Lists.Facts.{All}
-use Rattle.records.specs.Carries.{Stores}
+use Rattle.records.specs.Carries.{Reads}
 use Rattle.build_line.specs.Work.{line}
 use Rattle.build_line.proofs.Determined.{heads_same}
 use Rattle.build_begin.specs.declared.Structure.{Structure}
@@ -47,7 +47,7 @@ named_same ws vs z y c i j n k =
     record { slots = slots_same z y c n.slots k.slots; head = heads_same ws vs z.head y.head i j lines; queue = lines }
 
 pub before_waiting_determined : (κs : Lfts 1) (a : Dens κs before-waiting-kinds.ps) (x y : (res_t before-waiting-kinds.r κs).Denot) (e f : AtExit (ended_of 1 before-waiting-kinds.ps before-waiting-kinds.r) κs) →
-    before-waiting.Post κs a x e → before-waiting.Post κs a y f → (rs : List Record) (es : List Entry) → Stores a.0.now a.1.0 (rs ++ map waiting es) → All (λ r. not (waits r) ≡ true) rs → x ≡ y
+    before-waiting.Post κs a x e → before-waiting.Post κs a y f → (rs : List Record) (es : List Entry) → Reads a.0 (rs ++ map waiting es) → All (λ r. not (waits r) ≡ true) rs → x ≡ y
 before_waiting_determined κs a x y e f p q rs es h k = p rs es h k ∙ sym (q rs es h k)
 
 pub marks_at_determined : (κs : Lfts 0) (a : Dens κs marks-at-kinds.ps) (x y : (res_t marks-at-kinds.r κs).Denot) (e f : AtExit (ended_of 0 marks-at-kinds.ps marks-at-kinds.r) κs) →

@@ -1,27 +1,21 @@
 -- Where the waiting records begin.
-use mathlib.Core.Path.{◌≡◌, sym, ap, ◌∙◌}
+use mathlib.Core.Path.{◌≡◌, refl, sym, ap, ◌∙◌}
 use mathlib.Core.Bool.{true, false, not, true≢false}
 use mathlib.Core.List.{List, [], ◌∷◌, ◌++◌, map}
-use Prim.Native.Nat.{ℕ, zero, suc, ◌+◌, ◌≤◌, ◌<◌}
+use Prim.Native.Nat.{ℕ, zero, suc, ◌≤◌, ◌<◌}
 use native.Mathlib.Omega.{arith}
-use lib.ListN.{length, get_or, length-append}
+use lib.ListN.{length, get_or}
 use Rattle.rules.specs.Records.{Entry, Record, waiting, unknown, waits}
 use Rattle.laws.specs.Lists.Facts.{All}
 
-pub walk_on : (rs : List Record) (es : List Entry) (i : ℕ) → waits (get_or (rs ++ map waiting es) i unknown) ≡ false → i < length (rs ++ map waiting es) →
-    i ≤ length rs → i + 1 ≤ length rs
+-- the first record that waits stands behind those that do not
+pub first_waiting : (rs : List Record) (es : List Entry) (u : ℕ) → All (λ x. not (waits x) ≡ true) rs → u ≤ length (rs ++ map waiting es) →
+    ((i : ℕ) → i < u → false ≡ waits (get_or (rs ++ map waiting es) i unknown)) →
+    (u < length (rs ++ map waiting es) → true ≡ waits (get_or (rs ++ map waiting es) u unknown)) → u ≡ length rs
 unfolding waits
-walk_on [] [] i w h k = absurd (omega arith)
-walk_on [] (e ∷ es) zero w h k = absurd (true≢false w)
-walk_on [] (e ∷ es) (suc i) w h k = absurd (omega arith)
-walk_on (r ∷ rs) es zero w h k = omega arith
-walk_on (r ∷ rs) es (suc i) w h k = omega (arith, walk_on rs es i w (omega arith) (omega arith))
-
-pub walk_here : (rs : List Record) (es : List Entry) (i : ℕ) → All (λ x. not (waits x) ≡ true) rs → waits (get_or (rs ++ map waiting es) i unknown) ≡ true →
-    i ≤ length rs → i ≡ length rs
-walk_here [] es i a w k = omega arith
-walk_here (r ∷ rs) es zero a w k = absurd (true≢false (sym a.0 ∙ ap not w))
-walk_here (r ∷ rs) es (suc i) a w k = omega (arith, walk_here rs es i a.1 w (omega arith))
-
-pub walk_end : (rs : List Record) (es : List Entry) (n i : ℕ) → n ≡ length (rs ++ map waiting es) → n ≤ i → i ≤ length rs → n ≡ length rs
-walk_end rs es n i e h k = omega (arith, length-append rs (map waiting es))
+first_waiting [] [] u a h before here = omega arith
+first_waiting [] (e ∷ es) zero a h before here = refl
+first_waiting [] (e ∷ es) (suc u) a h before here = absurd (true≢false (sym (before 0 (omega arith))))
+first_waiting (r ∷ rs) es zero a h before here = absurd (true≢false (sym a.0 ∙ ap not (sym (here (omega arith)))))
+first_waiting (r ∷ rs) es (suc u) a h before here =
+    ap suc (first_waiting rs es u a.1 (omega arith) (λ i p. before (suc i) (omega arith)) (λ p. here (omega arith)))

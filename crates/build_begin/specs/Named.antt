@@ -13,7 +13,7 @@ marks_at s n = record { records = n; words = s.words; fresh = s.fresh; clauses =
 
 -- the structure with other marks
 abbrev pub with_marks : Structure → Marks → Structure
-with_marks z m = record { marks = m; head = z.head; tares = z.tares; tares_used = z.tares_used; buckets = z.buckets; buckets_used = z.buckets_used }
+with_marks z m = record z { marks = m }
 
 -- z has the tares and buckets of c
 pub record Slots (z : Structure) (c : Build) : Type 0 where

@@ -5,10 +5,10 @@
 ghost use Rattle.std.specs.Prelude.{◌≡◌, true, not, List, ◌++◌, map, length};
 ghost use Rattle.rules.specs.Records.{Record, Entry, waiting, waits};
 ghost use Rattle.laws.specs.Lists.Facts.{All};
-ghost use Rattle.records.specs.Carries.{Stores};
+ghost use Rattle.records.specs.Carries.{Reads};
 ghost use Rattle.build_begin.specs.Named.{marks_at};
 
-use records::Marks;
+use records::{Marks, Store};
 use rules::State;
 
 // The marks after a build or a refinement, where its queue begins in the work words, its tares and its buckets.
@@ -23,17 +23,12 @@ pub struct Structure {
 }
 
 // How many records stand before the waiting ones, which are last. Linear in the records.
-pub fn before_waiting(store: &[u32], records: usize) -> usize
-    ensures { (rs : List Record) (es : List Entry) → Stores store.now records (rs ++ map waiting es) → All (λ x. not (waits x) ≡ true) rs → result ≡ length rs }
+pub fn before_waiting(store: Store) -> usize
+    ensures { (rs : List Record) (es : List Entry) → Reads store.entry (rs ++ map waiting es) → All (λ x. not (waits x) ≡ true) rs → result ≡ length rs }
 {
-    let mut i: usize = 0;
-    while i < records {
-        if records::is_waiting(store, records, i) {
-            return i;
-        }
-        i += 1;
-    }
-    records
+    (0..store.records)
+        .find(|&i| store.is_waiting(i))
+        .unwrap_or(store.records)
 }
 
 // The marks of a state whose waiting entries begin at record n. Constant time.

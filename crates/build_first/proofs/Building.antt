@@ -38,6 +38,13 @@ whole b fuel taken =
     let (rs, buckets) = buckets_over (some_wait q.queue) q.records [] (rising (l - 1 - p) b.arena.fresh) (drop p q.members) in
     (record { records = rs; fresh = b.arena.fresh + taken; clauses = b.arena.clauses }, (buckets, q.queue))
 
+-- the new tares stand first in their array
+tares_front : (k fresh : ℕ) (xs : List ℕ) → xs ≡ padded 0 19 (rising k fresh) → take k xs ≡ rising k fresh
+tares_front k fresh xs e = ap₂ (λ (n : ℕ) (ys : List ℕ). take n ys) (sym (rising_length k fresh)) e ∙ padded_front 0 19 (rising k fresh)
+
+pub tares_count : (k fresh : ℕ) (xs : List ℕ) → xs ≡ padded 0 19 (rising k fresh) → k ≡ length (take k xs)
+tares_count k fresh xs e = sym (ap length (tares_front k fresh xs e) ∙ rising_length k fresh)
+
 module _ (b : Build) (ws : List ℕ) (h : ℕ) (r : Ready b ws h) where
   abbrev p : ℕ
   p = top_bit b.set
@@ -69,12 +76,9 @@ module _ (b : Build) (ws : List ℕ) (h : ℕ) (r : Ready b ws h) where
   queue_ready =
       queued_start ws h b.queue r.long r.head r.queue_is r.formed.waiting_are.few (omega (arith, weights_few b r.formed)) r.none
 
-  front : (xs : List ℕ) (fresh : ℕ) → xs ≡ padded 0 19 (rising k fresh) → take k xs ≡ rising k fresh
-  front xs fresh e = ap₂ (λ (n : ℕ) (ys : List ℕ). take n ys) (sym (rising_length k fresh)) e ∙ padded_front 0 19 (rising k fresh)
-
   pub tares_low : (xs : List ℕ) (fresh : ℕ) → xs ≡ padded 0 19 (rising k fresh) → fresh + k ≤ 1000000001 → All (λ t. t < 2147483648) (take k xs)
   tares_low xs fresh e few =
-      subst (λ (ts : List ℕ). All (λ t. t < 2147483648) ts) (sym (front xs fresh e)) (All_rising (λ t. t < 2147483648) k fresh (λ i a c. omega arith))
+      subst (λ (ts : List ℕ). All (λ t. t < 2147483648) ts) (sym (tares_front k fresh xs e)) (All_rising (λ t. t < 2147483648) k fresh (λ i a c. omega arith))
 
   pub first_built : (σ τ e : St) (us tares : List ℕ) (z : Structure) (used : ℕ) → used ≤ 20 → 13312 ≤ length us → tares ≡ padded 0 19 (rising k b.arena.fresh) →
       z.tares ≡ tares → z.tares_used ≡ k → z.buckets ≡ padded 0 20 (made_in us used) → z.buckets_used ≡ used →
@@ -84,7 +88,7 @@ module _ (b : Build) (ws : List ℕ) (h : ℕ) (r : Ready b ws h) where
   first_built σ τ e us tares z used few long et ez en eb eu made carried =
       let same : tower k b.set p (take k tares) (members_from ws 0 l) (line ws h) b.arena ≡
       ((build_structure b).arena, ((build_structure b).buckets, (build_structure b).queue)) =
-      ap₂ (λ (ts : List ℕ) (x : List (List ℕ) × List Entry). tower k b.set p ts x.0 x.1 b.arena) (front tares b.arena.fresh et)
+      ap₂ (λ (ts : List ℕ) (x : List (List ℕ) × List Entry). tower k b.set p ts x.0 x.1 b.arena) (tares_front k b.arena.fresh tares et)
       (ap₂ (λ (ms : List (List ℕ)) (q : List Entry). (ms, q)) (members_empty ws 0 l (λ i a c. r.none i (omega (arith, powers)))) r.queue_is) ∙ first_is in
       let out : Carries e τ (build_structure b).arena × (Fits e (build_structure b).arena → ◌≡◌ {A = List ℕ × List Entry} (made_in us used, line us z.head) ((build_structure b).buckets, (build_structure b).queue)) =
       subst (λ (x : Arena × (List ℕ × List Entry)). Carries e τ x.0 × (Fits e x.0 → ◌≡◌ {A = List ℕ × List Entry} (made_in us used, line us z.head) x.1)) same (made.go e b.arena carried) in (
@@ -104,46 +108,53 @@ module _ (b : Build) (ws : List ℕ) (h : ℕ) (r : Ready b ws h) where
 
 -- The same by what the code computes -------------------------------------------------------------------------------------------------
 
-module _ (s : State) (store ws : List ℕ) (h : ℕ) (r : Ready (build_of s store) ws h) (most d t : ℕ) (em : most ≡ largest (line ws h)) (ed : d ≡ digits most)
-    (et : t ≡ top_bit s.set) where
+-- the powers of the buckets: from the divisor's top bit t up to the bit length d of the largest weight
+pub record Powers (s : State) (store ws : List ℕ) (h d t : ℕ) : Type 0 where
+  pub ready : Ready (build_of s store) ws h
+  pub end_is : d ≡ digits (largest (build_of s store).queue)
+  pub low_is : t ≡ top_bit s.set
+  pub some : t < d
+  pub few : d ≤ 20
+
+pub powers_from : (s : State) (store ws : List ℕ) (h : ℕ) → Ready (build_of s store) ws h → (most d t : ℕ) → most ≡ largest (line ws h) → d ≡ digits most → t ≡ top_bit s.set →
+    Powers s store ws h d t
+unfolding build_of build_over
+powers_from s store ws h r most d t em ed et =
+    let end : d ≡ digits (largest (build_of s store).queue) = ed ∙ ap digits (em ∙ largest_is (build_of s store) ws h r) in
+    record {
+      ready = r;
+      end_is = end;
+      low_is = et;
+      some = omega (arith, end, et, low (build_of s store) ws h r);
+      few = omega (arith, end, first_powers_20 (build_of s store) r.formed);
+    }
+
+module _ (s : State) (store ws : List ℕ) (h d t : ℕ) (x : Powers s store ws h d t) where
   abbrev b : Build
   b = build_of s store
 
-  d_is : d ≡ digits (largest b.queue)
-  d_is = ed ∙ ap digits (em ∙ largest_is b ws h r)
-
-  t_is : t ≡ top_bit b.set
-  unfolding build_of build_over
-  t_is = et
-
-  pub power_low : t < d
-  power_low = omega (arith, d_is, t_is, low b ws h r)
-
-  pub power_few : d ≤ 20
-  power_few = omega (arith, d_is, powers b ws h r)
-
   k_is : d - 1 - t ≡ digits (largest b.queue) - 1 - top_bit b.set
-  k_is = ap₂ (λ (x y : ℕ). x - 1 - y) d_is t_is
+  unfolding build_of build_over
+  k_is = ap₂ (λ (x y : ℕ). x - 1 - y) x.end_is x.low_is
 
   pub fresh_room : (fresh : ℕ) → fresh ≡ s.fresh → fresh + (d - 1 - t) < 4294967296
   unfolding build_of build_over
-  fresh_room fresh e = omega (arith, r.formed.fresh_few, power_few)
+  fresh_room fresh e = omega (arith, x.ready.formed.fresh_few, x.few)
 
-  pub tower_ready : (fresh : ℕ) (tares : List ℕ) → tares ≡ padded 0 19 (rising (d - 1 - t) fresh) → Queued ws h × (1 ≤ s.set) × (t ≤ d) × (d ≤ 20) × (d - 1 - t ≤ 19) ×
+  pub tower_ready : (fresh : ℕ) (tares : List ℕ) → tares ≡ padded 0 19 (rising (d - 1 - t) fresh) → Queued ws h × (1 ≤ s.set) × (t ≤ d) × (d ≤ 20) ×
       (fresh + (d - 1 - t) ≤ 1000000001 → All (λ x. x < 2147483648) (take (d - 1 - t) tares))
   unfolding build_of build_over
   tower_ready fresh tares e = (
-    queue_ready b ws h r,
-    set_positive b r.formed,
-    omega (arith, power_low),
-    power_few,
-    omega (arith, power_few),
+    queue_ready b ws h x.ready,
+    set_positive b x.ready.formed,
+    omega (arith, x.some),
+    x.few,
     λ few. subst (λ (k : ℕ). All (λ x. x < 2147483648) (take k tares)) (sym k_is)
-        (tares_low b ws h r tares fresh (e ∙ ap (λ (k : ℕ). padded 0 19 (rising k fresh)) k_is) (omega (arith, few, k_is))),
+        (tares_low b ws h x.ready tares fresh (e ∙ ap (λ (k : ℕ). padded 0 19 (rising k fresh)) k_is) (omega (arith, few, k_is))),
   )
 
   pub line_low : largest (line ws h) < 2 ^ d
-  line_low = subst (λ (n : ℕ). largest (line ws h) < 2 ^ n) (sym d_is) (reaches b ws h r)
+  line_low = subst (λ (n : ℕ). largest (line ws h) < 2 ^ n) (sym x.end_is) (reaches b ws h x.ready)
 
   pub built : (σ τ e : St) (us tares : List ℕ) (z : Structure) (used fresh : ℕ) → fresh ≡ s.fresh → t + used ≤ d → 13312 ≤ length us →
       tares ≡ padded 0 19 (rising (d - 1 - t) fresh) → z.tares ≡ tares → z.tares_used ≡ d - 1 - t → z.buckets ≡ padded 0 20 (made_in us used) → z.buckets_used ≡ used →
@@ -155,12 +166,15 @@ module _ (s : State) (store ws : List ℕ) (h : ℕ) (r : Ready (build_of s stor
       let made' : Makes σ τ (made_in us used, line us z.head)
       (tower k b.set (top_bit b.set) (take k tares) (members_from ws 0 (digits (largest b.queue))) (line ws h)) =
       subst (λ (x : ℕ × ℕ). Makes σ τ (made_in us used, line us z.head) (tower (x.0 - 1 - x.1) s.set x.1 (take (x.0 - 1 - x.1) tares) (members_from ws 0 x.0) (line ws h)))
-      (ap₂ (λ (x y : ℕ). (x, y)) d_is t_is) made in
-      first_built b ws h r σ τ e us tares z used (omega (arith, few, power_few)) long
+      (ap₂ (λ (x y : ℕ). (x, y)) x.end_is x.low_is) made in
+      first_built b ws h x.ready σ τ e us tares z used (omega (arith, few, x.few)) long
       (et' ∙ ap₂ (λ (n f : ℕ). padded 0 19 (rising n f)) k_is ef) ez (en ∙ k_is) eb eu made' carried
 
 -- the buckets made, behind none
-pub made_slots : (us xs zs : List ℕ) (used : ℕ) → zs ≡ replicate 20 0 → ((ys : List ℕ) → length ys ≡ 0 → zs ≡ padded 0 20 ys → xs ≡ padded 0 20 (ys ++ take used (drop (2132 - used) us))) →
+pub made_slots : (us xs : List ℕ) (used : ℕ) → used ≤ 20 →
+    ((ys : List ℕ) → length ys ≡ 0 → replicate 20 0 ≡ padded 0 20 ys → xs ≡ padded 0 20 (ys ++ take (2132 - (2132 - used)) (drop (2132 - used) us))) →
     xs ≡ padded 0 20 (made_in us used)
 unfolding made_in padded
-made_slots us xs zs used z e = e [] refl z
+made_slots us xs used few e =
+    let n : 2132 - (2132 - used) ≡ used = omega arith in
+    e [] refl refl ∙ ap (λ (k : ℕ). padded 0 20 (take k (drop (2132 - used) us))) n

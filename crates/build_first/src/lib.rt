@@ -9,9 +9,10 @@ ghost use Rattle.build_begin.specs.Named.{Named};
 ghost use Rattle.build_first.specs.Ready.{Ready};
 
 use build_begin::Structure;
+use build_line::MADE_END;
 use build_tower::Plan;
 use records::Marks;
-use rules::State;
+use rules::{MOST_BUCKETS, State};
 
 // The buckets of powers p to L - 1, each but the top one with a tare, numbers taken in rising power. As a tower grows.
 pub fn build_structure(
@@ -25,29 +26,22 @@ pub fn build_structure(
     ensures { ((e : St) (c : List ℤ) → Carries e (st store.old c m) (build_of s store.old).arena → Carries e (st store.new c result.marks) (build_structure (build_of s store.old)).arena × (Fits e (build_structure (build_of s store.old)).arena → Named work.new result (build_structure (build_of s store.old)))) × (length work.new ≡ length work.old) × (result.head ≤ 512) × (result.tares_used ≤ 19) }
 {
     let most = build_queue::weight(work, h);
-    let l = numbers::digits(most as u64);
+    let l = numbers::digits(u64::from(most));
     let p = numbers::top_bit(s.set);
     let k = l - 1 - p;
     let tares = build_arrays::fresh_tares(m.fresh, k as usize);
     let plan = Plan {
         divisor: s.set,
-        tares,
-        many: k as usize,
+        tares: &tares[..k as usize],
         low: p as usize,
         end: l as usize,
         taken: k,
     };
     let t = build_tower::tower(store, work, m, h, plan);
-    let buckets = build_arrays::append_buckets(
-        [0; rules::MOST_BUCKETS],
-        0,
-        work,
-        build_line::MADE_END - t.used,
-        t.used,
-    );
-    let marks = t.marks;
+    let made = &work[MADE_END - t.used..MADE_END];
+    let buckets = build_arrays::append([0; MOST_BUCKETS], 0, made);
     Structure {
-        marks,
+        marks: t.marks,
         head: t.head,
         tares,
         tares_used: k,

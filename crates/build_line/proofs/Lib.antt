@@ -1,3 +1,4 @@
 -- The laws of a line.
 pub mod Lines
+pub mod Firsts
 pub mod Determined

@@ -13,7 +13,7 @@ use Rattle.rules.specs.Records.{Record, Entry, waiting}
 use Rattle.rules.specs.Build.{largest}
 use Rattle.rules.specs.Queue.{queue_run}
 use Rattle.numbers.proofs.Determined.{One_result}
-use Rattle.records.specs.Carries.{st, Stores}
+use Rattle.records.specs.Carries.{st, Reads}
 use Rattle.records.proofs.Entry.{Same_made, makes_determined}
 use Rattle.build_line.specs.Work.{line, members_from}
 use Rattle.build_queue.specs.Queued.{sorting}
@@ -36,6 +36,6 @@ gather_determined κs a x y e f p q c n i j = makes_determined _ _ _ _ _ _ (p.0 
 
 pub enqueue_determined : (κs : Lfts 2) (a : Dens κs enqueue-kinds.ps) (x y : (res_t enqueue-kinds.r κs).Denot) (e f : AtExit (ended_of 2 enqueue-kinds.ps enqueue-kinds.r) κs) →
     enqueue.Post κs a x e → enqueue.Post κs a y f → (x ≡ y) × (drop 1024 e.1.0.now ≡ drop 1024 f.1.0.now) ×
-    ((rs : List Record) (es : List Entry) → Stores a.0.now a.1.1.1.0 (rs ++ map waiting es) → length rs ≡ a.1.1.0 →
+    ((rs : List Record) (es : List Entry) → Reads a.0 (rs ++ map waiting es) → length rs ≡ a.1.1.0 →
     line e.1.0.now x ≡ line f.1.0.now y)
 enqueue_determined κs a x y e f p q = (omega (arith, p.1, q.1), p.3 ∙ sym q.3, λ rs es h k. p.0 rs es h k ∙ sym (q.0 rs es h k))

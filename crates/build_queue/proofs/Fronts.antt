@@ -1,6 +1,6 @@
 -- The run at the front of a sorted line, and what stands behind it.
 use mathlib.Core.Path.{◌≡◌, refl, sym, ap, ap₂, ◌∙◌, subst}
-use mathlib.Core.Logic.{◌≢◌}
+use mathlib.Core.Logic.{◌≢◌, ◌⊎◌, inl, inr}
 use mathlib.Core.Bool.{Bool, true, false, not, cond}
 use mathlib.Core.List.{List, [], ◌∷◌, ◌++◌, map, append-nil}
 use Prim.Native.Nat.{ℕ, zero, suc, ◌+◌, ◌-◌, ◌≤◌, ◌<◌}
@@ -13,12 +13,14 @@ use Rattle.rules.specs.Lists.{keep}
 use Rattle.rules.specs.Records.{Entry}
 use Rattle.rules.specs.Build.{largest}
 use Rattle.rules.specs.Queue.{heavier, run, others}
-use Rattle.laws.specs.Lists.Facts.{All, All_map, All_append, All_second}
+use Rattle.laws.specs.Lists.Facts.{All, All_map, All_second}
 use Rattle.laws.specs.Lists.Sorts.{Ordered}
 use Rattle.laws.specs.Queue.Runs.{all_largest}
 use Rattle.records_words.specs.Words.{word_at}
+use Rattle.records.proofs.Grow.{le_or}
 use Rattle.build_line.specs.Work.{line_from, line}
 use Rattle.build_line.proofs.Lines.{line_parts}
+use Rattle.build_line.proofs.Firsts.{First}
 
 keep_append : {A : Type 0} (p : A → Bool) (xs ys : List A) → keep p (xs ++ ys) ≡ keep p xs ++ keep p ys
 unfolding keep
@@ -120,7 +122,7 @@ weight_first ws h w p o e =
 -- The run ------------------------------------------------------------------------------------------------------------------
 
 -- the entries from h to i have weight w
-pub record Running (ws : List ℕ) (h i w : ℕ) : Type 0 where
+record Running (ws : List ℕ) (h i w : ℕ) : Type 0 where
   pub after : h < i
   pub within : i ≤ 512
   pub same : All (λ e. e.weight ≡ w) (line_from ws h (i - h))
@@ -131,30 +133,10 @@ pub record Run (ws : List ℕ) (h r w : ℕ) : Type 0 where
   pub taken : line_from ws h (r - h) ≡ run w (line ws h)
   pub kept : line ws r ≡ others w (line ws h)
 
-pub run_start : (ws : List ℕ) (h w : ℕ) → h < 512 → Ordered heavier (line ws h) → w ≡ largest (line ws h) → Running ws h (h + 1) w
-unfolding line_from word_at
-run_start ws h w p o e = record {
-  after = omega arith;
-  within = omega arith;
-  same =
-      let k : h + 1 - h ≡ 1 = omega arith in
-      subst (λ (k : ℕ). All (λ e. e.weight ≡ w) (line_from ws h k)) (sym k) (weight_first ws h (get_or ws (512 + h) 0) p o refl ∙ sym e, tt);
-}
-
-pub run_turn : (ws : List ℕ) (h i w x : ℕ) → i < 512 → x ≡ word_at ws (512 + i) → x ≡ w → Running ws h i w → Running ws h (i + 1) w
-unfolding word_at line_from
-run_turn ws h i w x p e f r = record {
-  after = omega (arith, r.after);
-  within = omega arith;
-  same =
-      let a : i + 1 - h ≡ i - h + 1 = omega (arith, r.after) in
-      let b : h + (i - h) ≡ i = omega (arith, r.after) in
-      let one : line_from ws (h + (i - h)) 1 ≡ line_from ws i 1 = ap (λ (k : ℕ). line_from ws k 1) b in
-      let both : line_from ws h (i + 1 - h) ≡ line_from ws h (i - h) ++ line_from ws i 1
-      = ap (line_from ws h) a ∙ (line_parts ws h (i - h) 1 ∙ ap (λ (l : List Entry). line_from ws h (i - h) ++ l) one) in
-      subst (All (λ e. e.weight ≡ w)) (sym both)
-      (All_append (λ e. e.weight ≡ w) (line_from ws h (i - h)) (line_from ws i 1) r.same (sym e ∙ f, tt));
-}
+line_all : (ws : List ℕ) (h k w : ℕ) → ((i : ℕ) → h ≤ i → i < h + k → get_or ws (512 + i) 0 ≡ w) → All (λ e. e.weight ≡ w) (line_from ws h k)
+unfolding line_from
+line_all ws h zero w same = tt
+line_all ws h (suc k) w same = (same h (omega arith) (omega arith), line_all ws (suc h) k w (λ i p q. same i (omega arith) (omega arith)))
 
 run_done : (ws : List ℕ) (h i w : ℕ) → All (λ e. e.weight < w) (line ws i) → Running ws h i w → Run ws h i w
 run_done ws h i w low r =
@@ -167,13 +149,13 @@ run_done ws h i w low r =
     }
 
 -- the line ends with the run
-pub run_last : (ws : List ℕ) (h i w : ℕ) → 512 ≤ i → Running ws h i w → Run ws h i w
+run_last : (ws : List ℕ) (h i w : ℕ) → 512 ≤ i → Running ws h i w → Run ws h i w
 run_last ws h i w p r = run_done ws h i w (subst (All (λ e. e.weight < w)) (sym (line_none ws i p)) tt) r
 
 -- another weight follows
-pub run_ends : (ws : List ℕ) (h i w x : ℕ) → i < 512 → Ordered heavier (line ws h) → x ≡ word_at ws (512 + i) → x ≢ w → Running ws h i w → Run ws h i w
-unfolding word_at line_from
-run_ends ws h i w x p o e ne r = run_done ws h i w (subst (All (λ e. e.weight < w)) (sym (line_first ws i p)) low) r
+run_ends : (ws : List ℕ) (h i w : ℕ) → i < 512 → Ordered heavier (line ws h) → get_or ws (512 + i) 0 ≢ w → Running ws h i w → Run ws h i w
+unfolding line_from
+run_ends ws h i w p o ne r = run_done ws h i w (subst (All (λ e. e.weight < w)) (sym (line_first ws i p)) low) r
   where
     first : Entry
     first = record { node = get_or ws h 0; weight = get_or ws (512 + h) 0 }
@@ -196,7 +178,29 @@ run_ends ws h i w x p o e ne r = run_done ws h i w (subst (All (λ e. e.weight <
 
     low : All (λ e. e.weight < w) (next ∷ line ws (suc i))
     low = subst (λ (k : ℕ). All (λ e. e.weight < k) (next ∷ line ws (suc i))) is
-        (lighter first more next (line ws (suc i)) all (λ z. ne (e ∙ (z ∙ is))))
+        (lighter first more next (line ws (suc i)) all (λ z. ne (z ∙ is)))
+
+-- the run ends before the first entry of another weight
+pub run_first : (ws : List ℕ) (h w u : ℕ) → h < 512 → Ordered heavier (line ws h) → w ≡ largest (line ws h) →
+    First (λ i. word_at ws (512 + i) ≢ w) (λ i. word_at ws (512 + i) ≡ w) (h + 1) 512 u → Run ws h u w
+unfolding word_at
+run_first ws h w u p o e f = go (le_or 512 u)
+  where
+    same : (i : ℕ) → h ≤ i → i < h + (u - h) → get_or ws (512 + i) 0 ≡ w
+    same i j k = at (le_or (h + 1) i)
+      where
+        at : (h + 1 ≤ i) ⊎ (h + 1 ≤ i → ⊥) → get_or ws (512 + i) 0 ≡ w
+        at (inl x) = f.before i x (omega arith)
+        at (inr x) =
+            let is : h ≡ i = omega arith in
+            subst (λ (k : ℕ). get_or ws (512 + k) 0 ≡ w) is (weight_first ws h (get_or ws (512 + h) 0) p o refl ∙ sym e)
+
+    running : Running ws h u w
+    running = record { after = omega (arith, f.low); within = f.high; same = line_all ws h (u - h) w same }
+
+    go : (512 ≤ u) ⊎ (512 ≤ u → ⊥) → Run ws h u w
+    go (inl x) = run_last ws h u w x running
+    go (inr x) = run_ends ws h u w (omega arith) o (f.here (omega arith)) running
 
 -- the run of the largest weight, as it is promised
 pub run_found : (ws : List ℕ) (h r w : ℕ) → w ≡ largest (line ws h) → Run ws h r w →

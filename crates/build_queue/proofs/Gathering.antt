@@ -94,14 +94,6 @@ gather_stops σ₀ σ fuel d x f h l =
     left_done σ₀ σ σ x x f (sorting (queue_run fuel d)) (queue_run_grows fuel d)
     (makes_same σ σ x (λ t. (t, x)) (sorting (queue_run fuel d) x) (λ t. sym (sorting_stops fuel d x t h)) (makes_none σ x)) l
 
-gather_ends : (σ₀ σ : St) (fuel d : ℕ) (x : List (List ℕ) × List Entry) (f : Arena → Arena × (List (List ℕ) × List Entry)) →
-    fuel ≤ 0 → Left σ₀ σ x f (sorting (queue_run fuel d)) → Makes σ₀ σ x f
-unfolding sorting queue_run with_records
-gather_ends σ₀ σ fuel d x f h l =
-    let e : fuel ≡ 0 = omega arith in
-    left_end σ₀ σ x x f (sorting (queue_run 0 d)) (λ (y : List (List ℕ) × List Entry). y) refl (λ y t. refl)
-    (subst (λ (k : ℕ). Left σ₀ σ x f (sorting (queue_run k d))) e l)
-
 -- What is kept ----------------------------------------------------------------------------------------------------------------------
 
 pub kept_none : (b : ℕ) (ws : List ℕ) → Kept b ws ws
@@ -115,8 +107,10 @@ kept_then b c us vs ws h p q = record {
 
 -- The loop ---------------------------------------------------------------------------------------------------------------------------
 
--- on the way from the queue of vs at h to that of ws at g, with fuel left
-pub record Going (s s' : List ℕ) (m m' : Marks) (vs ws : List ℕ) (h g d fuel : ℕ) : Type 0 where
+-- on the way from the queue of vs at h to that of ws at g; the largest weight that waits is at most the fuel of the run that is left
+pub record Going (s s' : List ℕ) (m m' : Marks) (vs ws : List ℕ) (h g d : ℕ) : Type 0 where
+  pub fuel : ℕ
+  pub enough : largest (line ws g) ≤ fuel
   pub left : (c : List ℤ) (n : ℕ) → n ≤ 20 → largest (line vs h) < 2 ^ n →
       Left (st s c m) (st s' c m') (members_from ws 0 n, line ws g) (sorting (queue_run (largest (line vs h)) d) (members_from vs 0 n, line vs h))
       (sorting (queue_run fuel d))
@@ -131,55 +125,53 @@ Gathered s s' m m' vs ws h g d =
     Makes (st s c m) (st s' c m') (members_from ws 0 n, line ws g) (sorting (queue_run (largest (line vs h)) d) (members_from vs 0 n, line vs h))) ×
     Queued ws g × (largest (line ws g) ≤ largest (line vs h)) × Kept (largest (line vs h)) vs ws
 
-pub going_start : (s : List ℕ) (m : Marks) (vs : List ℕ) (h d fuel : ℕ) → Queued vs h → fuel ≡ largest (line vs h) → Going s s m m vs vs h h d fuel
-going_start s m vs h d fuel q e = record {
-  left = λ c n i j. subst (λ (k : ℕ). Left (st s c m) (st s c m) (members_from vs 0 n, line vs h)
-      (sorting (queue_run (largest (line vs h)) d) (members_from vs 0 n, line vs h)) (sorting (queue_run k d))) (sym e)
-      (left_start (st s c m) (members_from vs 0 n, line vs h) (sorting (queue_run (largest (line vs h)) d)));
+pub going_start : (s : List ℕ) (m : Marks) (vs : List ℕ) (h d : ℕ) → Queued vs h → Going s s m m vs vs h h d
+going_start s m vs h d q = record {
+  fuel = largest (line vs h);
+  enough = omega arith;
+  left = λ c n i j. left_start (st s c m) (members_from vs 0 n, line vs h) (sorting (queue_run (largest (line vs h)) d));
   queued = q;
   low = omega arith;
   kept = kept_none (largest (line vs h)) vs;
 }
 
-pub going_turn : (s s' s'' : List ℕ) (m m' m'' : Marks) (vs ws xs : List ℕ) (h g f d fuel w : ℕ) → 0 < fuel → w ≡ largest (line ws g) → d ≤ w →
+pub going_turn : (s s' s'' : List ℕ) (m m' m'' : Marks) (vs ws xs : List ℕ) (h g f d w : ℕ) → 1 ≤ d → w ≡ largest (line ws g) → d ≤ w →
     ((c : List ℤ) (n : ℕ) → n ≤ 20 → largest (line ws g) < 2 ^ n →
     Makes (st s' c m') (st s'' c m'') (members_from xs 0 n, line xs f) (sorting (queue_step (largest (line ws g))) (members_from ws 0 n, line ws g))) ×
     Queued xs f × (largest (line xs f) < largest (line ws g)) × Kept (largest (line ws g)) ws xs →
-    Going s s' m m' vs ws h g d fuel → Going s s'' m m'' vs xs h f d (fuel - 1)
-going_turn s s' s'' m m' m'' vs ws xs h g f d fuel w p e reach x y = record {
+    Going s s' m m' vs ws h g d → Going s s'' m m'' vs xs h f d
+going_turn s s' s'' m m' m'' vs ws xs h g f d w p e reach x y = record {
+  fuel = y.fuel - 1;
+  enough = omega (arith, x.2, y.enough);
   left = λ c n i j.
-      gather_turn (st s c m) (st s' c m') (st s'' c m'') fuel d (members_from ws 0 n, line ws g) (members_from xs 0 n, line xs f)
-      (sorting (queue_run (largest (line vs h)) d) (members_from vs 0 n, line vs h)) p (omega arith) (x.0 c n i (omega (arith, y.low))) (y.left c n i j);
+      gather_turn (st s c m) (st s' c m') (st s'' c m'') y.fuel d (members_from ws 0 n, line ws g) (members_from xs 0 n, line xs f)
+      (sorting (queue_run (largest (line vs h)) d) (members_from vs 0 n, line vs h)) (omega (arith, y.enough)) (omega arith) (x.0 c n i (omega (arith, y.low)))
+      (y.left c n i j);
   queued = x.1;
   low = omega (arith, x.2, y.low);
   kept = kept_then (largest (line vs h)) (largest (line ws g)) vs ws xs y.low y.kept x.3;
 }
 
-going_by : (s s' : List ℕ) (m m' : Marks) (vs ws : List ℕ) (h g d fuel : ℕ) →
-    ((c : List ℤ) (n : ℕ) (f : Arena → Arena × (List (List ℕ) × List Entry)) →
-    Left (st s c m) (st s' c m') (members_from ws 0 n, line ws g) f (sorting (queue_run fuel d)) →
-    Makes (st s c m) (st s' c m') (members_from ws 0 n, line ws g) f) → Going s s' m m' vs ws h g d fuel → Gathered s s' m m' vs ws h g d
-going_by s s' m m' vs ws h g d fuel by x =
-    (λ c n i j. by c n (sorting (queue_run (largest (line vs h)) d) (members_from vs 0 n, line vs h)) (x.left c n i j), x.queued, x.low, x.kept)
-
 -- the room ended
-pub going_full : (s s' : List ℕ) (m m' : Marks) (vs ws : List ℕ) (h g d fuel : ℕ) → m'.full ≡ true → Going s s' m m' vs ws h g d fuel →
-    Gathered s s' m m' vs ws h g d
-going_full s s' m m' vs ws h g d fuel k =
-    going_by s s' m m' vs ws h g d fuel (λ c n f. left_full (st s c m) (st s' c m') (members_from ws 0 n, line ws g) (members_from ws 0 n, line ws g) f
-    (sorting (queue_run fuel d)) (queue_run_grows fuel d) k)
+pub going_full : (s s' : List ℕ) (m m' : Marks) (vs ws : List ℕ) (h g d : ℕ) → m'.full ≡ true → Going s s' m m' vs ws h g d → Gathered s s' m m' vs ws h g d
+going_full s s' m m' vs ws h g d k x = (
+  λ c n i j. left_full (st s c m) (st s' c m') (members_from ws 0 n, line ws g) (members_from ws 0 n, line ws g)
+      (sorting (queue_run (largest (line vs h)) d) (members_from vs 0 n, line vs h)) (sorting (queue_run x.fuel d)) (queue_run_grows x.fuel d) k (x.left c n i j),
+  x.queued,
+  x.low,
+  x.kept,
+)
 
 -- the largest weight is below the divisor
-pub going_stops : (s s' : List ℕ) (m m' : Marks) (vs ws : List ℕ) (h g d fuel w : ℕ) → w ≡ largest (line ws g) → w < d → Going s s' m m' vs ws h g d fuel →
+pub going_stops : (s s' : List ℕ) (m m' : Marks) (vs ws : List ℕ) (h g d w : ℕ) → w ≡ largest (line ws g) → w < d → Going s s' m m' vs ws h g d →
     Gathered s s' m m' vs ws h g d
-going_stops s s' m m' vs ws h g d fuel w e k =
-    going_by s s' m m' vs ws h g d fuel (λ c n f. gather_stops (st s c m) (st s' c m') fuel d (members_from ws 0 n, line ws g) f (omega arith))
-
--- the fuel is spent
-pub going_ends : (s s' : List ℕ) (m m' : Marks) (vs ws : List ℕ) (h g d fuel : ℕ) → fuel ≤ 0 → Going s s' m m' vs ws h g d fuel →
-    Gathered s s' m m' vs ws h g d
-going_ends s s' m m' vs ws h g d fuel k =
-    going_by s s' m m' vs ws h g d fuel (λ c n f. gather_ends (st s c m) (st s' c m') fuel d (members_from ws 0 n, line ws g) f k)
+going_stops s s' m m' vs ws h g d w e k x = (
+  λ c n i j. gather_stops (st s c m) (st s' c m') x.fuel d (members_from ws 0 n, line ws g)
+      (sorting (queue_run (largest (line vs h)) d) (members_from vs 0 n, line vs h)) (omega arith) (x.left c n i j),
+  x.queued,
+  x.low,
+  x.kept,
+)
 
 -- Buckets above every weight ----------------------------------------------------------------------------------------------------------
 

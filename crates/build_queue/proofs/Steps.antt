@@ -2,9 +2,10 @@
 use mathlib.Core.Path.{◌≡◌, refl, sym, ap, ap₂, ◌∙◌, subst}
 use mathlib.Core.Logic.{◌≢◌, ◌⊎◌, inl, inr}
 use mathlib.Core.List.{List, [], ◌∷◌, ◌++◌, map}
-use Prim.Native.Nat.{ℕ, zero, suc, ◌+◌, ◌-◌, ◌%◌, ◌^◌, ◌≤◌, ◌<◌}
+use Prim.Native.Nat.{ℕ, zero, suc, ◌+◌, ◌*◌, ◌-◌, ◌%◌, ◌^◌, ◌≤◌, ◌<◌}
 use native.Mathlib.Omega.{arith}
 use lib.Pow.{pow_pos}
+use Rattle.std.proofs.Math.Nat.{pow-succ'}
 use lib.ListN.{length, get_or, set, take, drop, length-map}
 use lib.Seq.{get_or-drop}
 use lib.IntN.{ℤ}
@@ -16,10 +17,9 @@ use Rattle.rules.specs.Build.{largest}
 use Rattle.rules.specs.Queue.{heavier, run, others, requeue, queue_step}
 use Rattle.laws.specs.Lists.Facts.{All, All_map, All_make, length_total}
 use Rattle.laws.specs.Lists.Sorts.{Ordered, ordered_insert}
-use Rattle.laws.specs.Numbers.Powers.{top_bit_within, top_bit_below}
+use Rattle.laws.specs.Numbers.Powers.{top_bit_least, top_bit_below}
 use Rattle.laws.specs.Queue.Runs.{heavier_order, largest_all, all_largest, others_less, requeue_all, run_some}
 use Rattle.laws.specs.Queue.Loads.{load, load_step, nodes_of}
-use Rattle.numbers.proofs.Bits.{power_whole}
 use Rattle.records.specs.declared.Marks.{Marks}
 use Rattle.records.specs.Carries.{St, st, Makes, on_records, with_records}
 use Rattle.records.proofs.Grow.{le_or}
@@ -30,16 +30,18 @@ use Rattle.build_queue.proofs.Members.{members_length, members_get, members_beyo
 
 -- The weight that is left ---------------------------------------------------------------------------------------------------
 
--- 2 to the top bit, as it is computed
-pub top_power : (w k p : ℕ) → 1 ≤ w → w < 4294967296 → k ≡ top_bit w → p ≡ 2 ^ k % 2 ^ 64 → p ≡ 2 ^ top_bit w
-top_power w k p h i e q =
-    power_whole k p (omega (arith, top_bit_below 32 w h i, e)) q ∙ ap (λ (k : ℕ). 2 ^ k) e
+-- the power that the weight lies at or above, below its double, is that of its top bit
+pub top_is : (w k : ℕ) → 2 ^ k ≤ w → w < 2 * 2 ^ k → k ≡ top_bit w
+top_is w k h i =
+    let least : k ≤ top_bit w = top_bit_least k w h in
+    let below : top_bit w < suc k = top_bit_below (suc k) w (omega (arith, pow_pos k)) (omega (arith, pow-succ' 2 k)) in
+    omega arith
 
-pub top_within : (w k p : ℕ) → 1 ≤ w → w < 4294967296 → k ≡ top_bit w → p ≡ 2 ^ k % 2 ^ 64 → p ≤ w
-top_within w k p h i e q = omega (arith, top_power w k p h i e q, top_bit_within w h)
-
-pub top_left : (w k p : ℕ) → 1 ≤ w → w < 4294967296 → k ≡ top_bit w → p ≡ 2 ^ k % 2 ^ 64 → w - p ≡ w - 2 ^ top_bit w
-top_left w k p h i e q = ap (λ (p : ℕ). w - p) (top_power w k p h i e q)
+-- 2 to that power, as it is shifted
+pub top_left : (w k : ℕ) → w < 4294967296 → 2 ^ k ≤ w → w < 2 * 2 ^ k → w - 1 * 2 ^ k % 4294967296 ≡ w - 2 ^ top_bit w
+top_left w k f h i =
+    let small : 1 * 2 ^ k % 4294967296 ≡ 2 ^ k = omega arith in
+    ap (λ (p : ℕ). w - p) (small ∙ ap (λ (k : ℕ). 2 ^ k) (top_is w k h i))
 
 pub requeue_none : (es : List Entry) (n w : ℕ) → w ≡ 0 → es ≡ requeue es n w
 unfolding requeue

@@ -7,11 +7,11 @@ use native.Mathlib.Omega.{arith}
 use borrow.Fn.Kinds.{Dens, res_t, ended_of}
 use denote.Triple.Clauses.{AtExit}
 use contract.Lifetimes.{Lfts}
-use lib.ListN.{length, take}
+use lib.ListN.{length}
 use lib.IntN.{ℤ}
 use Rattle.rules.specs.Records.{Record, Entry, waiting}
 use Rattle.rules.specs.Build.{largest}
-use Rattle.records.specs.Carries.{st, Stores}
+use Rattle.records.specs.Carries.{st, Reads}
 use Rattle.records.proofs.Entry.{Same_made, makes_determined}
 use Rattle.build_line.specs.Work.{line, count_at, members_from, made_in}
 use Rattle.build_line.proofs.Determined.{heads_same}
@@ -24,7 +24,7 @@ use Rattle.build_tower.proofs.tower.Reads as tower
 
 pub queued_determined : (κs : Lfts 2) (a : Dens κs queued-kinds.ps) (x y : (res_t queued-kinds.r κs).Denot) (e f : AtExit (ended_of 2 queued-kinds.ps queued-kinds.r) κs) →
     queued.Post κs a x e → queued.Post κs a y f → ((k : ℕ) → k < 20 → count_at e.1.0.now k ≡ count_at f.1.0.now k) ×
-    ((rs : List Record) (es : List Entry) → Stores a.0.now a.1.1.1.0 (rs ++ map waiting es) → length rs ≡ a.1.1.0 →
+    ((rs : List Record) (es : List Entry) → Reads a.0 (rs ++ map waiting es) → length rs ≡ a.1.1.0 →
     (x ≡ y) × (line e.1.0.now x ≡ line f.1.0.now y))
 queued_determined κs a x y e f p q = (
   λ k i. p.1 k i ∙ sym (q.1 k i),
@@ -32,12 +32,12 @@ queued_determined κs a x y e f p q = (
       let same = p.0 rs es h i ∙ sym (q.0 rs es h i) in (heads_same e.1.0.now f.1.0.now x y p.3 q.3 same, same),
 )
 
-pub tower_determined : (κs : Lfts 2) (a : Dens κs tower-kinds.ps) (x y : (res_t tower-kinds.r κs).Denot) (e f : AtExit (ended_of 2 tower-kinds.ps tower-kinds.r) κs) →
+pub tower_determined : (κs : Lfts 3) (a : Dens κs tower-kinds.ps) (x y : (res_t tower-kinds.r κs).Denot) (e f : AtExit (ended_of 3 tower-kinds.ps tower-kinds.r) κs) →
     tower.Pre κs a → tower.Post κs a x e → tower.Post κs a y f →
     ((c : List ℤ) → largest (line a.1.0.now a.1.1.1.0) < 2 ^ a.1.1.1.1.0.end →
     Same_made (st a.0.now c a.1.1.0) (st e.0.now c x.marks) (st f.0.now c y.marks)
     (made_in e.1.0.now x.used, line e.1.0.now x.head) (made_in f.1.0.now y.used, line f.1.0.now y.head)
-    (tower-rule a.1.1.1.1.0.taken a.1.1.1.1.0.divisor a.1.1.1.1.0.low (take a.1.1.1.1.0.many a.1.1.1.1.0.tares)
+    (tower-rule a.1.1.1.1.0.taken a.1.1.1.1.0.divisor a.1.1.1.1.0.low a.1.1.1.1.0.tares.now
     (members_from a.1.0.now 0 a.1.1.1.1.0.end) (line a.1.0.now a.1.1.1.0))) ×
     (made_in e.1.0.now x.used ≡ made_in f.1.0.now y.used → x.used ≡ y.used) ×
     (line e.1.0.now x.head ≡ line f.1.0.now y.head → x.head ≡ y.head)

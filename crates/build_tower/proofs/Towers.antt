@@ -1,13 +1,14 @@
 -- Numbers taken, the queue run, the buckets made: together the rule of a tower.
 use mathlib.Core.Path.{◌≡◌, refl, sym, ap, ap₂, ◌∙◌, subst}
 use mathlib.Core.Bool.{Bool, true, false}
-use mathlib.Core.List.{List, [], ◌∷◌}
+use mathlib.Core.List.{List, [], ◌∷◌, ◌++◌}
 use Prim.Native.Nat.{ℕ, zero, suc, ◌+◌, ◌-◌, ◌≤◌, ◌<◌, max}
 use native.Mathlib.Omega.{arith}
-use lib.Dec.{eqb, ltb}
-use lib.ListN.{length, get_or, set, take, drop}
-use lib.Seq.{get_or-take, get_or-set_same, get_or-set_other}
-use mathlib.Core.Logic.{◌≢◌}
+use lib.Dec.{ltb}
+use borrow.Rule.Slice.PartMut.{put_mid, post_of, same_len_mid}
+use lib.ListN.{length, get_or, take, drop, replicate, length-drop, get_or-append}
+use lib.Seq.{length-take-le, get_or-take, get_or-append-add}
+use Rattle.std.proofs.lemmas.List.{get_or-replicate, length-replicate}
 use Rattle.rules.specs.Records.{Entry}
 use Rattle.rules.specs.Totalizer.{Arena}
 use Rattle.rules.specs.Build.{largest, some_wait}
@@ -17,8 +18,7 @@ use Rattle.records.specs.Carries.{St, marks_of, Steps, Makes, on_records, with_r
 use Rattle.records.proofs.Grow.{Grows, grows_trans}
 use Rattle.records.proofs.Step.{stop, makes_then, makes_same, makes_full}
 use Rattle.records_append.specs.Fresh.{with_numbers}
-use borrow.Author.Tests.{ltb-true, ltb-false, eqb-true, eqb-false}
-use Rattle.records_words.specs.Words.{put_word}
+use borrow.Author.Tests.{ltb-true, ltb-false}
 use Rattle.build_line.specs.Work.{line, line_from, count_at}
 use Rattle.build_queue.specs.Queued.{sorting}
 use Rattle.build_queue.proofs.Gathering.{queue_run_grows}
@@ -80,18 +80,23 @@ module _ (taken d p : ℕ) (tares : List ℕ) (mss : List (List ℕ)) (es : List
 
 -- The counts set to 0 ------------------------------------------------------------------------------------------------------------
 
-pub clear_turn : (ws vs us : List ℕ) (k : ℕ) → k < 20 → 13312 ≤ length ws → length vs ≡ length ws → ((j : ℕ) → j < k → count_at vs j ≡ 0) → us ≡ put_word vs (2048 + k) 0 →
-    (j : ℕ) → j < k + 1 → count_at us j ≡ 0
-unfolding count_at put_word
-clear_turn ws vs us k h long same none e j i = ap (λ (xs : List ℕ). get_or xs (2048 + j) 0) e ∙ go (eqb j k) refl
-  where
-    go : (b : Bool) → eqb j k ≡ b → get_or (set vs (2048 + k) 0) (2048 + j) 0 ≡ 0
-    go true p =
-        let at : 2048 + j ≡ 2048 + k = omega (arith, eqb-true j k p) in
-        ap (λ (n : ℕ). get_or (set vs (2048 + k) 0) n 0) at ∙ get_or-set_same vs (2048 + k) 0 0 (omega arith)
-    go false p =
-        let off : j ≢ k = eqb-false j k p in
-        get_or-set_other vs (2048 + k) (2048 + j) 0 0 (λ q. off (omega arith)) ∙ none j (omega arith)
+module _ (ws ys : List ℕ) (long : 13312 ≤ length ws) (zeros : ys ≡ replicate (length (take 20 (drop 2048 ws))) 0) where
+  many : length (take 20 (drop 2048 ws)) ≡ 20
+  many = length-take-le 20 (drop 2048 ws) (omega (arith, length-drop 2048 ws))
+
+  pub cleared_length : length (put_mid 2048 20 ws ys) ≡ length ws
+  cleared_length = same_len_mid 2048 20 ws ys (ap length zeros ∙ length-replicate (length (take 20 (drop 2048 ws))) 0)
+
+  pub cleared : (k : ℕ) → k < 20 → count_at (put_mid 2048 20 ws ys) k ≡ 0
+  unfolding count_at
+  cleared k h =
+      let rest : List ℕ = post_of 2048 20 ws in
+      let front : length (take 2048 ws) ≡ 2048 = length-take-le 2048 ws (omega arith) in
+      let all : ys ≡ replicate 20 0 = zeros ∙ ap (λ (n : ℕ). replicate n 0) many in
+      ap (λ (n : ℕ). get_or (put_mid 2048 20 ws ys) (n + k) 0) (sym front) ∙
+      (get_or-append-add (take 2048 ws) (ys ++ rest) k 0 ∙
+      (ap (λ (zs : List ℕ). get_or (zs ++ rest) k 0) all ∙
+      (get_or-append (replicate 20 0) rest 0 k (omega arith) ∙ get_or-replicate {A = ℕ} 20 k 0 0 h)))
 
 -- something waits where the line begins before its end
 pub waits_where : (ws : List ℕ) (h : ℕ) (b : Bool) → b ≡ ltb h 512 → b ≡ some_wait (line ws h)

@@ -1,5 +1,6 @@
 // Plays the histories of standard input, whose answers the Rust's own text gave; crates/history_play says how they are written,
-// tests/rust_text/run writes them.
+// tests/rust_text/run writes them. The buffers have room for a text of 131,072 bytes, 257 inputs, 3,000 records and 50,000
+// clause words.
 #![tactic(auto)]
 
 use std::io;

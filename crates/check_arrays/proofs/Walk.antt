@@ -125,3 +125,17 @@ module _ {A : Type 0} (p : A → Bool) (d : A) (xs : List A) (i : ℕ) (x : Bool
 pub pass_last : (a x : Bool) → x ≡ a → x ≡ (a && true)
 pass_last true x e = e
 pass_last false x e = e
+
+-- `a && b`, as a branch decides it: a is the test p, and b, where it is asked, the test q
+pub then_and : (p q : Bool) {a x : Bool} → a ≡ p → a ≡ true → x ≡ q → x ≡ (p && q)
+then_and p q e t f = f ∙ ap (λ (b : Bool). b && q) (sym t ∙ e)
+
+pub else_and : (p q : Bool) {a : Bool} → a ≡ p → a ≡ false → a ≡ (p && q)
+else_and p q e f = f ∙ ap (λ (b : Bool). b && q) (sym f ∙ e)
+
+-- `a || b`, likewise
+pub then_or : (p q : Bool) {a : Bool} → a ≡ p → a ≡ true → a ≡ (p || q)
+then_or p q e t = t ∙ ap (λ (b : Bool). b || q) (sym t ∙ e)
+
+pub else_or : (p q : Bool) {a x : Bool} → a ≡ p → a ≡ false → x ≡ q → x ≡ (p || q)
+else_or p q e f g = g ∙ ap (λ (b : Bool). b || q) (sym f ∙ e)

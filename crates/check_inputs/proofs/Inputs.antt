@@ -9,6 +9,7 @@ use lib.ListN.{length, length-append, length-map, drop}
 use lib.Seq.{drop_at}
 use lib.IntN.{nat_abs}
 use borrow.Author.Tests.{eq-eqb, ne_eqb, eqb-true, eqb-false, lt-ltb, le-leb, leb-true, ltb-true}
+use Rattle.std.specs.List.{fold, range_with_len}
 use Rattle.rules.specs.Lists.{all, any, among, keep, rising}
 use Rattle.rules.specs.Records.{Kind, leaf, join, dummy, Record, Entry, node, output, waiting, unknown, waits, word_literal, entries}
 use Rattle.rules.specs.WellFormed.{variable_of, waiting_last}
@@ -17,7 +18,8 @@ use Rattle.laws.specs.Lists.Facts.{and_true}
 use Rattle.laws.specs.WellFormed.Clauses.{last_of}
 use Rattle.records.specs.Readers.{leaf_word, entry_node}
 use Rattle.check_inputs.specs.Steps.{is_entry, waits_in}
-use Rattle.check_arrays.proofs.Walk.{same_truth, rest, rest_here, walk_start, walk_end}
+use Rattle.check_arrays.proofs.Chains.{range_is}
+use Rattle.check_arrays.proofs.Walk.{same_truth}
 
 -- a leaf's variable by its literal's word, which is 0 of any other node
 pub variable_word : (k : Kind) → nat_abs (word_literal (leaf_word k)) ≡ variable_of k
@@ -54,29 +56,25 @@ max_above low v n = same_truth (leb (max low (v + 1)) n) (leb low n && ltb v n)
     let k : v < n = ltb-true v n b in
     le-leb (max low (v + 1)) n (omega arith))
 
-module _ (p : ℕ → ℕ) (inputs n : ℕ) where
-  pub low_start : (leb 0 n && rest (λ i. ltb (p i) n) inputs 0) ≡ all (λ i. ltb (p i) n) (rising inputs 0)
-  low_start =
-      ap (λ (b : Bool). b && rest (λ i. ltb (p i) n) inputs 0) (le-leb 0 n (omega arith)) ∙ walk_start (λ i. ltb (p i) n) inputs
+fold_above : (p : ℕ → ℕ) (n low : ℕ) (xs : List ℕ) → leb (fold (λ a i. max a (p i + 1)) low xs) n ≡ (leb low n && all (λ i. ltb (p i) n) xs)
+unfolding all
+fold_above p n low [] = alone (leb low n)
+  where
+    alone : (a : Bool) → a ≡ (a && true)
+    alone true = refl
+    alone false = refl
+fold_above p n low (x ∷ xs) =
+    fold_above p n (max low (p x + 1)) xs ∙
+    (ap (λ (b : Bool). b && all (λ i. ltb (p i) n) xs) (max_above low (p x) n) ∙ grouped (leb low n) (ltb (p x) n) (all (λ i. ltb (p i) n) xs))
+  where
+    grouped : (a b c : Bool) → ((a && b) && c) ≡ (a && (b && c))
+    grouped true b c = refl
+    grouped false b c = refl
 
-  module _ (i low : ℕ) (x : Bool) (e : (leb low n && rest (λ i. ltb (p i) n) inputs i) ≡ x) where
-    pub low_on : i < inputs → (v w : ℕ) → v ≡ p i → w ≡ max low (v + 1) → (leb w n && rest (λ i. ltb (p i) n) inputs (i + 1)) ≡ x
-    low_on h v w ev ew =
-        ap (λ (y : ℕ). leb y n && rest (λ i. ltb (p i) n) inputs (i + 1)) (ew ∙ ap (λ (y : ℕ). max low (y + 1)) ev) ∙
-        (ap (λ (b : Bool). b && rest (λ i. ltb (p i) n) inputs (i + 1)) (max_above low (p i) n) ∙
-        (grouped (leb low n) (ltb (p i) n) (rest (λ i. ltb (p i) n) inputs (i + 1)) ∙
-        (ap (λ (b : Bool). leb low n && b) (sym (rest_here (λ i. ltb (p i) n) inputs i h)) ∙ e)))
-      where
-        grouped : (a b c : Bool) → ((a && b) && c) ≡ (a && (b && c))
-        grouped true b c = refl
-        grouped false b c = refl
-
-    pub low_end : inputs ≤ i → leb low n ≡ x
-    low_end h = alone (leb low n) ∙ (ap (λ (b : Bool). leb low n && b) (walk_end (λ i. ltb (p i) n) inputs i _ h refl) ∙ e)
-      where
-        alone : (a : Bool) → a ≡ (a && true)
-        alone true = refl
-        alone false = refl
+pub low_is : (p : ℕ → ℕ) (inputs n : ℕ) → leb (fold (λ a i. max a (p i + 1)) 0 (range_with_len 0 inputs)) n ≡ all (λ i. ltb (p i) n) (rising inputs 0)
+low_is p inputs n =
+    fold_above p n 0 (range_with_len 0 inputs) ∙
+    (ap (λ (b : Bool). b && all (λ i. ltb (p i) n) (range_with_len 0 inputs)) (le-leb 0 n (omega arith)) ∙ ap (all (λ i. ltb (p i) n)) (range_is inputs 0))
 
 -- a node waits among the records exactly if it is an entry's
 pub waits_among : (rs : List Record) (n : ℕ) → among (map (λ (e : Entry). e.node) (entries rs)) n ≡ waits_in rs n

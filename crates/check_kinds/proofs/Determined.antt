@@ -9,5 +9,5 @@ use Rattle.check_kinds.proofs.kinds_known.Kinds as kinds-known-kinds
 use Rattle.check_kinds.proofs.kinds_known.Reads as kinds_known
 
 pub kinds_known_determined : (κs : Lfts 1) (a : Dens κs kinds-known-kinds.ps) (x y : (res_t kinds-known-kinds.r κs).Denot) (e f : AtExit (ended_of 1 kinds-known-kinds.ps kinds-known-kinds.r) κs) →
-    kinds_known.Post κs a x e → kinds_known.Post κs a y f → 8 * a.1.0 ≤ length a.0.now → x ≡ y
+    kinds_known.Post κs a x e → kinds_known.Post κs a y f → 8 * a.0.records ≤ length a.0.words.now → x ≡ y
 kinds_known_determined κs a x y e f p q room = p room ∙ sym (q room)

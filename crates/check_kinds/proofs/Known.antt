@@ -15,9 +15,11 @@ use Rattle.laws.specs.Records.Words.{same_self, same_true, both, word_not_one}
 use Rattle.laws.specs.Lists.Facts.{and_true}
 use Rattle.laws.specs.WellFormed.Whole.{records_length}
 use Rattle.numbers.proofs.Literals.{word_literal_word}
-use Rattle.records.specs.Words.{field_at}
+use Rattle.records.specs.declared.Kind.{Kind}
+use Rattle.records.specs.declared.Kind.TheVariants.{Leaf, Join, Dummy, Output, Waiting}
+use Rattle.records.specs.Words.{kind_word, field_at}
 use Rattle.check_kinds.specs.Words.{zeros, kind_known, words_known, known_at}
-use Rattle.check_arrays.proofs.Walk.{same_truth, and_false, rest, walk_start, all_same, all_places}
+use Rattle.check_arrays.proofs.Walk.{same_truth, and_false, all_same, all_places}
 
 -- what three zeros say
 zeros_of : (a b c : ℕ) → zeros a b c ≡ true → (a ≡ 0) × (b ≡ 0) × (c ≡ 0)
@@ -168,44 +170,17 @@ module _ (s : List ℕ) (records : ℕ) (room : 8 * records ≤ length s) where
       words_cong (word i 0 h (omega arith)) (word i 1 h (omega arith)) (word i 2 h (omega arith)) (word i 3 h (omega arith))
       (word i 4 h (omega arith)) (word i 5 h (omega arith)) (word i 6 h (omega arith)) (word i 7 h (omega arith))))
 
-  pub known_start : rest (known_at s records) records 0 ≡ kinds_known (records_of s records)
+  pub all_known : all (known_at s records) (rising records 0) ≡ kinds_known (records_of s records)
   unfolding kinds_known
-  known_start =
-      walk_start (known_at s records) records ∙
-      (all_same (known_at s records) (λ i. known (get_or (records_of s records) i unknown)) records 0 (λ i a b. at i (omega arith)) ∙
+  all_known =
+      all_same (known_at s records) (λ i. known (get_or (records_of s records) i unknown)) records 0 (λ i a b. at i (omega arith)) ∙
       (ap (λ (n : ℕ). all (λ i. known (get_or (records_of s records) i unknown)) (rising n 0)) (sym (records_length s records)) ∙
-      all_places known unknown (records_of s records)))
+      all_places known unknown (records_of s records))
 
-pub known_cong : {k k' a a' b b' c c' m m' h h' : ℕ} → k ≡ k' → a ≡ a' → b ≡ b' → c ≡ c' → m ≡ m' → h ≡ h' →
-    kind_known k a b c m h ≡ kind_known k' a' b' c' m' h'
-known_cong ek ea eb ec em eh = cc
-
--- the ways of the test of a kind
-module _ (k a b c m h : ℕ) where
-  pub way_1 : k ≡ 1 → (not (eqb a 1) && zeros b c 0) ≡ kind_known k a b c m h
-  unfolding kind_known
-  way_1 e = sym (rw (eq-eqb k 1 e) refl)
-
-  module _ (n1 : k ≡ 1 → ⊥) where
-    pub way_2 : k ≡ 2 → leb c 1 ≡ kind_known k a b c m h
-    unfolding kind_known
-    way_2 e = sym (simp (ne_eqb k 1 n1, eq-eqb k 2 e))
-
-    module _ (n2 : k ≡ 2 → ⊥) where
-      pub way_3 : k ≡ 3 → zeros a b c ≡ kind_known k a b c m h
-      unfolding kind_known
-      way_3 e = sym (simp (ne_eqb k 1 n1, ne_eqb k 2 n2, eq-eqb k 3 e))
-
-      module _ (n3 : k ≡ 3 → ⊥) where
-        pub way_4 : k ≡ 4 → zeros (c % 2) m h ≡ kind_known k a b c m h
-        unfolding kind_known
-        way_4 e = sym (simp (ne_eqb k 1 n1, ne_eqb k 2 n2, ne_eqb k 3 n3, eq-eqb k 4 e))
-
-        module _ (n4 : k ≡ 4 → ⊥) where
-          pub way_5 : k ≡ 5 → zeros c m h ≡ kind_known k a b c m h
-          unfolding kind_known
-          way_5 e = sym (simp (ne_eqb k 1 n1, ne_eqb k 2 n2, ne_eqb k 3 n3, ne_eqb k 4 n4, eq-eqb k 5 e))
-
-          pub way_none : (k ≡ 5 → ⊥) → false ≡ kind_known k a b c m h
-          unfolding kind_known
-          way_none n5 = sym (simp (ne_eqb k 1 n1, ne_eqb k 2 n2, ne_eqb k 3 n3, ne_eqb k 4 n4, ne_eqb k 5 n5))
+-- a word that says no kind
+pub none_at : (s : List ℕ) (records i k : ℕ) → k ≡ field_at s records i 0 → ((kind : Kind) → kind_word kind ≡ k → ⊥) → false ≡ known_at s records i
+unfolding known_at
+none_at s records i k e none =
+    let at : ℕ → ℕ = field_at s records i in
+    sym (none_known (at 0) (at 1) (at 2) (at 3) (at 4) (at 5) (at 6) (at 7) (λ q. none Leaf (sym (e ∙ q))) (λ q. none Join (sym (e ∙ q))) (λ q. none Dummy (sym (e ∙ q)))
+    (λ q. none Output (sym (e ∙ q))) (λ q. none Waiting (sym (e ∙ q))))

@@ -4,77 +4,47 @@
 ghost use Rattle.std.specs.Prelude.{◌≡◌, ◌≤◌, ◌*◌, length};
 ghost use Rattle.rules.specs.Records.{records_of};
 ghost use Rattle.rules.specs.WellFormed.{kinds_known};
-ghost use Rattle.check_kinds.specs.Words.{zeros, kind_known, known_at};
+ghost use Rattle.records.specs.Words.{kind_word};
+ghost use Rattle.check_kinds.specs.Words.{kind_known, known_at};
 
-// Whether all three are 0. Constant time.
-fn zeros(a: u32, b: u32, c: u32) -> bool
-    ensures { result ≡ zeros a b c }
-{
-    if a != 0 {
-        return false;
-    }
-    if b != 0 {
-        return false;
-    }
-    c == 0
-}
+use records::{Fields, Kind, Store};
 
 // Whether the six words are those of a record. Constant time.
-fn kind_known(f: records::Fields) -> bool
-    ensures { result ≡ kind_known f.kind f.a f.b f.c f.maximum f.height }
+#[tactic(auto, unfolding(crate::specs::Words::kind_known, crate::specs::Words::zeros))]
+fn kind_known(f: Fields) -> bool
+    ensures { result ≡ kind_known (kind_word f.kind) f.a f.b f.c f.maximum f.height }
 {
-    if f.kind == records::LEAF {
-        if f.a == 1 {
-            return false;
-        }
-        return zeros(f.b, f.c, 0);
+    match f.kind {
+        Kind::Leaf => f.a != 1 && f.b == 0 && f.c == 0,
+        Kind::Join => f.c <= 1,
+        Kind::Dummy => f.a == 0 && f.b == 0 && f.c == 0,
+        Kind::Output => f.c % 2 == 0 && f.maximum == 0 && f.height == 0,
+        Kind::Waiting => f.c == 0 && f.maximum == 0 && f.height == 0,
     }
-    if f.kind == records::JOIN {
-        return f.c <= 1;
-    }
-    if f.kind == records::DUMMY {
-        return zeros(f.a, f.b, f.c);
-    }
-    if f.kind == records::OUTPUT {
-        return zeros(f.c % 2, f.maximum, f.height);
-    }
-    if f.kind == records::WAITING {
-        return zeros(f.c, f.maximum, f.height);
-    }
-    false
 }
 
 // Whether the words of record i are those of a record. Constant time.
-fn known_at(s: &[u32], records: usize, i: usize) -> bool
-    ensures { result ≡ known_at s.now records i }
+#[tactic(auto, unfolding(crate::specs::Words::known_at, crate::specs::Words::words_known))]
+fn known_at(store: Store, i: usize) -> bool
+    ensures { result ≡ known_at store.entry.words.now store.entry.records i }
 {
-    if records::field(s, records, i, records::ROLE) != 0 {
+    let Some(kind) = Kind::of(store.field(i, records::KIND)) else {
         return false;
-    }
-    if records::field(s, records, i, records::INDEX) != 0 {
-        return false;
-    }
-    let f = records::Fields {
-        kind: records::field(s, records, i, records::KIND),
-        a: records::field(s, records, i, records::A),
-        b: records::field(s, records, i, records::B),
-        c: records::field(s, records, i, records::C),
-        maximum: records::field(s, records, i, records::MAXIMUM),
-        height: records::field(s, records, i, records::HEIGHT),
     };
-    kind_known(f)
+    let f = Fields {
+        kind,
+        a: store.field(i, records::A),
+        b: store.field(i, records::B),
+        c: store.field(i, records::C),
+        maximum: store.field(i, records::MAXIMUM),
+        height: store.field(i, records::HEIGHT),
+    };
+    store.field(i, records::ROLE) == 0 && store.field(i, records::INDEX) == 0 && kind_known(f)
 }
 
 // Whether the kinds of all records are known. Linear in the records.
-pub fn kinds_known(s: &[u32], records: usize) -> bool
-    ensures { 8 * records ≤ length s.now → result ≡ kinds_known (records_of s.now records) }
+pub fn kinds_known(store: Store) -> bool
+    ensures { 8 * store.entry.records ≤ length store.entry.words.now → result ≡ kinds_known (records_of store.entry.words.now store.entry.records) }
 {
-    let mut i: usize = 0;
-    while i < records {
-        if !known_at(s, records, i) {
-            return false;
-        }
-        i += 1;
-    }
-    true
+    (0..store.records).all(|i| known_at(store, i))
 }

@@ -8,14 +8,15 @@ use lib.Dec.{eqb, leb}
 use lib.ListN.{length, get_or, drop, drop_of_length-le}
 use lib.Seq.{drop-cons}
 use lib.IntN.{pos, nat_abs}
-use borrow.Author.Tests.{eq-eqb, ne_eqb, eqb-true, eqb-false}
+use borrow.Author.Tests.{le-leb, lt-leb}
+use Rattle.std.specs.List.{list_all, range_with_len}
 use Rattle.rules.specs.Lists.{any}
 use Rattle.rules.specs.Records.{Node, Output, Entry, Record, node, output, waiting, unknown, outputs, word_literal}
 use Rattle.rules.specs.WellFormed.{rise_from, same_output, all_differ, outputs_distinct}
 use Rattle.laws.specs.Records.Words.{literal_word_literal}
 use Rattle.records.specs.Readers.{is_output, output_node, output_value, output_number}
-use Rattle.check_outputs.specs.Steps.{rises, next_low, defines, defined_in, again_in}
-use Rattle.check_arrays.proofs.Walk.{along_on, along_stop, along_end}
+use Rattle.check_outputs.specs.Steps.{defines, defined_in, again_in}
+use Rattle.check_arrays.proofs.Chains.{eqb_turned, range_along}
 
 -- a record that is no output
 module _ (r : Record) (other : is_output r ≡ false) where
@@ -29,21 +30,17 @@ module _ (r : Record) (other : is_output r ≡ false) where
       go (waiting w) e = of_entry w
       go unknown e = of_none
 
-  pub rises_other : (low : ℕ) → true ≡ rises low r
-  unfolding rises
-  rises_other low = none (rises low) true (λ n. refl) (λ w. refl) refl
-
-  pub low_other : (low : ℕ) → low ≡ next_low low r
-  unfolding next_low
-  low_other low = none (next_low low) low (λ n. refl) (λ w. refl) refl
-
-  pub none_other : (n v : ℕ) → false ≡ defines r n v
-  unfolding defines
-  none_other n v = none (λ r. defines r n v) false (λ m. refl) (λ w. refl) refl
-
   pub again_other : (rs : List Record) → false ≡ again_in r rs
   unfolding again_in
   again_other rs = none (λ r. again_in r rs) false (λ m. refl) (λ w. refl) refl
+
+-- output v of node n, by what the readers say of it
+pub defines_by : (r : Record) (n v : ℕ) → ((is_output r && eqb (output_node r) n) && eqb (output_value r) v) ≡ defines r n v
+unfolding is_output output_node output_value defines
+defines_by (node m) n v = refl
+defines_by (output o) n v = ap₂ (λ (a b : Bool). a && b) (eqb_turned o.node n) (eqb_turned o.value v)
+defines_by (waiting w) n v = refl
+defines_by unknown n v = refl
 
 -- an output, by what the readers say of it
 output_parts : (r : Record) → is_output r ≡ true →
@@ -56,66 +53,56 @@ output_parts (waiting w) e = absurd (false≢true e)
 output_parts unknown e = absurd (false≢true e)
 
 module _ (r : Record) (is : is_output r ≡ true) where
+  -- the number, as it is read
   module _ (w x : ℕ) (ew : w ≡ output_number r) (ex : x ≡ nat_abs (word_literal w)) where
-    number : x ≡ nat_abs (word_literal (output_number r))
-    number = ex ∙ ap (λ (y : ℕ). nat_abs (word_literal y)) ew
+    output_read : r ≡ output (record { node = output_node r; value = output_value r; number = x })
+    output_read =
+        output_parts r is ∙
+        ap (λ (y : ℕ). output (record { node = output_node r; value = output_value r; number = y })) (sym (ex ∙ ap (λ (y : ℕ). nat_abs (word_literal y)) ew))
 
-    pub rises_output : (low : ℕ) → leb low x ≡ rises low r
-    unfolding rises
-    rises_output low = ap (leb low) number ∙ ap (rises low) (sym (output_parts r is))
-
-    pub low_output : (low : ℕ) → x + 1 ≡ next_low low r
-    unfolding next_low
-    low_output low = ap (λ (y : ℕ). y + 1) number ∙ ap (next_low low) (sym (output_parts r is))
-
-  module _ (m : ℕ) (em : m ≡ output_node r) where
-    defines_is : (n v : ℕ) → (eqb n m && eqb v (output_value r)) ≡ defines r n v
-    unfolding defines
-    defines_is n v = ap (λ (y : ℕ). eqb n y && eqb v (output_value r)) em ∙ ap (λ (z : Record). defines z n v) (sym (output_parts r is))
-
-    pub output_elsewhere : (n v : ℕ) → (m ≡ n → ⊥) → false ≡ defines r n v
-    output_elsewhere n v h = ap (λ (b : Bool). b && eqb v (output_value r)) (sym (ne_eqb n m (λ q. h (sym q)))) ∙ defines_is n v
-
-    pub output_here : (n v x : ℕ) → m ≡ n → x ≡ output_value r → eqb x v ≡ defines r n v
-    output_here n v x h ex = turned (eqb x v) refl ∙ (ap (λ (b : Bool). b && eqb v (output_value r)) (sym (eq-eqb n m (sym h))) ∙ defines_is n v)
-      where
-        turned : (b : Bool) → eqb x v ≡ b → b ≡ eqb v (output_value r)
-        turned true q = sym (eq-eqb v (output_value r) (sym (eqb-true x v q) ∙ ex))
-        turned false q = sym (ne_eqb v (output_value r) (λ w. eqb-false x v q (ex ∙ sym w)))
-
-    pub again_output : (rs : List Record) (x : ℕ) → x ≡ output_value r → defined_in m x rs ≡ again_in r rs
+  module _ (m x : ℕ) (em : m ≡ output_node r) (ex : x ≡ output_value r) where
+    pub again_output : (rs : List Record) → defined_in m x rs ≡ again_in r rs
     unfolding again_in
-    again_output rs x ex = ap₂ (λ (y z : ℕ). defined_in y z rs) em ex ∙ ap (λ (z : Record). again_in z rs) (sym (output_parts r is))
+    again_output rs = ap₂ (λ (y z : ℕ). defined_in y z rs) em ex ∙ ap (λ (z : Record). again_in z rs) (sym (output_parts r is))
 
 -- rising numbers
-rise_first : (low : ℕ) (r : Record) (rs : List Record) → rise_from low (outputs (r ∷ rs)) ≡ (rises low r && rise_from (next_low low r) (outputs rs))
-unfolding rise_from outputs rises next_low
-rise_first low (node n) rs = refl
-rise_first low (output o) rs =
-    let up : suc o.number ≡ o.number + 1 = omega arith in
-    ap (λ (j : ℕ). leb low o.number && rise_from j (outputs rs)) up
-rise_first low (waiting e) rs = refl
-rise_first low unknown rs = refl
+rise_other : (low : ℕ) (r : Record) (rs : List Record) → is_output r ≡ false → rise_from low (outputs (r ∷ rs)) ≡ rise_from low (outputs rs)
+unfolding outputs is_output
+rise_other low (node n) rs e = refl
+rise_other low (output o) rs e = absurd (false≢true (sym e))
+rise_other low (waiting w) rs e = refl
+rise_other low unknown rs e = refl
 
-module _ (rs : List Record) (i low : ℕ) (x : Bool) (e : rise_from low (outputs (drop i rs)) ≡ x) where
-  rise_here : i < length rs →
-      rise_from low (outputs (drop i rs)) ≡ (rises low (get_or rs i unknown) && rise_from (next_low low (get_or rs i unknown)) (outputs (drop (i + 1) rs)))
-  rise_here h =
+rise_output : (low n v x : ℕ) (rs : List Record) →
+    rise_from low (outputs (output (record { node = n; value = v; number = x }) ∷ rs)) ≡ (leb low x && rise_from (x + 1) (outputs rs))
+unfolding rise_from outputs
+rise_output low n v x rs =
+    let up : suc x ≡ x + 1 = omega arith in
+    ap (λ (j : ℕ). leb low x && rise_from j (outputs rs)) up
+
+module _ (rs : List Record) (i low : ℕ) (z : Bool) (e : rise_from low (outputs (drop i rs)) ≡ z) where
+  here : i < length rs → drop i rs ≡ get_or rs i unknown ∷ drop (i + 1) rs
+  here h =
       let up : suc i ≡ i + 1 = omega arith in
-      ap (λ (t : List Record). rise_from low (outputs t)) (drop-cons rs i unknown h) ∙
-      (rise_first low (get_or rs i unknown) (drop (suc i) rs) ∙
-      ap (λ (j : ℕ). rises low (get_or rs i unknown) && rise_from (next_low low (get_or rs i unknown)) (outputs (drop j rs))) up)
+      drop-cons rs i unknown h ∙ ap (λ (j : ℕ). get_or rs i unknown ∷ drop j rs) up
 
-  pub rise_on : i < length rs → (n : ℕ) → n ≡ next_low low (get_or rs i unknown) → rises low (get_or rs i unknown) ≡ true →
-      rise_from n (outputs (drop (i + 1) rs)) ≡ x
-  rise_on h n en p =
-      ap (λ (m : ℕ). rise_from m (outputs (drop (i + 1) rs))) en ∙
-      (sym (rise_here h ∙ ap (λ (b : Bool). b && rise_from (next_low low (get_or rs i unknown)) (outputs (drop (i + 1) rs))) p) ∙ e)
+  pub rise_past : i < length rs → is_output (get_or rs i unknown) ≡ false → rise_from low (outputs (drop (i + 1) rs)) ≡ z
+  rise_past h p =
+      sym (ap (λ (t : List Record). rise_from low (outputs t)) (here h) ∙ rise_other low (get_or rs i unknown) (drop (i + 1) rs) p) ∙ e
 
-  pub rise_stop : i < length rs → rises low (get_or rs i unknown) ≡ false → false ≡ x
-  rise_stop h p = sym (rise_here h ∙ ap (λ (b : Bool). b && rise_from (next_low low (get_or rs i unknown)) (outputs (drop (i + 1) rs))) p) ∙ e
+  module _ (h : i < length rs) (is : is_output (get_or rs i unknown) ≡ true) (w x : ℕ) (ew : w ≡ output_number (get_or rs i unknown)) (ex : x ≡ nat_abs (word_literal w)) where
+    rise_here : (leb low x && rise_from (x + 1) (outputs (drop (i + 1) rs))) ≡ z
+    rise_here =
+        sym (ap (λ (t : List Record). rise_from low (outputs t)) (here h ∙ ap (λ (r : Record). r ∷ drop (i + 1) rs) (output_read (get_or rs i unknown) is w x ew ex)) ∙
+        rise_output low (output_node (get_or rs i unknown)) (output_value (get_or rs i unknown)) x (drop (i + 1) rs)) ∙ e
 
-  pub rise_end : length rs ≤ i → true ≡ x
+    pub rise_on : low ≤ x → rise_from (x + 1) (outputs (drop (i + 1) rs)) ≡ z
+    rise_on p = ap (λ (b : Bool). b && rise_from (x + 1) (outputs (drop (i + 1) rs))) (sym (le-leb low x p)) ∙ rise_here
+
+    pub rise_stop : x < low → false ≡ z
+    rise_stop p = ap (λ (b : Bool). b && rise_from (x + 1) (outputs (drop (i + 1) rs))) (sym (lt-leb low x p)) ∙ rise_here
+
+  pub rise_end : length rs ≤ i → true ≡ z
   unfolding rise_from outputs
   rise_end h = sym (ap (λ (t : List Record). rise_from low (outputs t)) (drop_of_length-le rs h)) ∙ e
 
@@ -135,15 +122,7 @@ distinct_first (output o) rs = ap (λ (b : Bool). not b && all_differ (outputs r
 distinct_first (waiting e) rs = refl
 distinct_first unknown rs = refl
 
-module _ (rs : List Record) (i : ℕ) (x : Bool) (e : outputs_distinct (drop i rs) ≡ x) where
-  pub distinct_on : i < length rs → again_in (get_or rs i unknown) (drop (i + 1) rs) ≡ false → outputs_distinct (drop (i + 1) rs) ≡ x
-  unfolding outputs_distinct all_differ outputs
-  distinct_on h p = along_on outputs_distinct (λ r rs. not (again_in r rs)) distinct_first refl unknown rs i x e h (ap not p)
-
-  pub distinct_stop : i < length rs → again_in (get_or rs i unknown) (drop (i + 1) rs) ≡ true → false ≡ x
-  unfolding outputs_distinct all_differ outputs
-  distinct_stop h p = along_stop outputs_distinct (λ r rs. not (again_in r rs)) distinct_first refl unknown rs i x e h (ap not p)
-
-  pub distinct_end : length rs ≤ i → true ≡ x
-  unfolding outputs_distinct all_differ outputs
-  distinct_end h = along_end outputs_distinct (λ r rs. not (again_in r rs)) distinct_first refl unknown rs i x e h
+pub distinct_is : (rs : List Record) (n : ℕ) → n ≡ length rs →
+    list_all (λ i. not (again_in (get_or rs i unknown) (drop (i + 1) rs))) (range_with_len 0 n) ≡ outputs_distinct rs
+unfolding outputs_distinct all_differ outputs
+distinct_is rs n e = range_along outputs_distinct (λ r rs. not (again_in r rs)) distinct_first refl unknown rs n e

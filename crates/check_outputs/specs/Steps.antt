@@ -1,22 +1,9 @@
 -- What one record adds to a walk over outputs or waiting entries.
-use Rattle.std.specs.Prelude.{Bool, true, false, ◌&&◌, List, map, ℕ, zero, suc, ◌+◌, ◌-◌, eqb, leb, ltb}
+use Rattle.std.specs.Prelude.{Bool, false, cond, ◌&&◌, List, map, ℕ, ◌-◌, eqb, ltb, Option, None, Some}
 use Rattle.rules.specs.Lists.{any, total}
 use Rattle.rules.specs.Records.{Record, Entry, node, output, waiting, unknown, node_at, entries}
-use Rattle.check_outputs.specs.declared.Budget.{Budget}
-
--- an output's number is at least `low`
-unfoldable pub rises : ℕ → Record → Bool
-rises low (output o) = leb low o.number
-rises low (node n) = true
-rises low (waiting e) = true
-rises low unknown = true
-
--- the least number of the next output
-unfoldable pub next_low : ℕ → Record → ℕ
-next_low low (output o) = o.number + 1
-next_low low (node n) = low
-next_low low (waiting e) = low
-next_low low unknown = low
+use Rattle.check_outputs.specs.declared.Cost.{Cost}
+use Rattle.check_outputs.specs.declared.Cost.TheVariants.{Count, Maximum, Weight}
 
 -- the record is output v of node n
 unfoldable pub defines : Record → ℕ → ℕ → Bool
@@ -38,15 +25,15 @@ again_in (node m) rs = false
 again_in (waiting e) rs = false
 again_in unknown rs = false
 
--- what an entry costs: 0 counts it, 1 is its node's maximum, any other its weight
-unfoldable pub cost : List Record → ℕ → Entry → ℕ
+-- what an entry costs: it counts 1, its node's maximum, or its weight
+unfoldable pub cost : List Record → Cost → Entry → ℕ
 unfolding node_at
-cost rs zero e = 1
-cost rs (suc zero) e = (node_at rs e.node).maximum
-cost rs (suc (suc k)) e = e.weight
+cost rs Count e = 1
+cost rs Maximum e = (node_at rs e.node).maximum
+cost rs Weight e = e.weight
 
 -- a record that is no entry costs nothing
-unfoldable pub record_cost : List Record → ℕ → Record → ℕ
+unfoldable pub record_cost : List Record → Cost → Record → ℕ
 unfolding cost
 record_cost rs what (waiting e) = cost rs what e
 record_cost rs what (node n) = 0
@@ -54,10 +41,10 @@ record_cost rs what (output o) = 0
 record_cost rs what unknown = 0
 
 -- the entries' costs together
-unfoldable pub total_cost : List Record → ℕ → List Record → ℕ
+unfoldable pub total_cost : List Record → Cost → List Record → ℕ
 unfolding total cost entries
 total_cost rs what part = total (map (cost rs what) (entries part))
 
--- what is left of a budget after a total, or that it is overspent
-unfoldable pub spent : ℕ → ℕ → Budget
-spent budget x = record { over = ltb budget x; left = budget - x }
+-- what is left of a budget after a total, unless that is more
+unfoldable pub spent : ℕ → ℕ → Option ℕ
+spent budget x = cond (ltb budget x) None (Some (budget - x))

@@ -1,12 +1,12 @@
 -- What the readers say of a record, test by test.
 use mathlib.Core.Path.{◌≡◌, refl, sym, ap, ap₂, ◌∙◌}
-use mathlib.Core.Bool.{Bool, true, false, not, cond, ◌&&◌, ◌||◌, false≢true}
+use mathlib.Core.Bool.{Bool, true, false, not, ◌&&◌, ◌||◌, false≢true}
 use mathlib.Core.List.{List}
-use Prim.Native.Nat.{ℕ, ◌+◌, ◌≤◌, ◌<◌}
-use lib.Dec.{eqb, ltb}
-use lib.ListN.{length, get_or}
+use Prim.Native.Nat.{ℕ}
+use lib.Dec.{eqb}
+use lib.ListN.{length}
 use lib.IntN.{ℤ, pos, nat_abs}
-use borrow.Author.Tests.{lt-ltb, le-ltb}
+use Rattle.std.specs.List.{list_all, range_with_len}
 use Rattle.rules.specs.Lists.{all, among, rising}
 use Rattle.rules.specs.Records.{Kind, leaf, join, dummy, Record, node, output, waiting, unknown, waits, node_of, word_literal, left_link, right_link, dummy_node}
 use Rattle.rules.specs.WellFormed.{is_leaf, spares_buckets, above}
@@ -14,8 +14,8 @@ use Rattle.laws.specs.Records.Words.{literal_word_literal}
 use Rattle.records.specs.Readers.{is_join, is_halved, leaf_word, is_output, output_node, output_value, output_number, entry_node, entry_weight}
 use Rattle.records.proofs.Read.{join_parts}
 use Rattle.check_records.specs.declared.Limits.{Limits}
-use Rattle.check_records.specs.Tests.{kind_right, output_right, entry_right, record_right, order_at, place_right, records_right}
-use Rattle.check_arrays.proofs.Walk.{rest, walk_start}
+use Rattle.check_records.specs.Tests.{kind_right, output_right, entry_right, record_right, place_right, records_right}
+use Rattle.check_arrays.proofs.Chains.{range_all}
 
 -- a node, by what the readers say of it
 module _ (rs : List Record) (k : Kind) (m h : ℕ) (x y : ℕ) (ex : x ≡ m) (ey : y ≡ h) where
@@ -81,24 +81,6 @@ module _ (rs : List Record) (tares buckets : List ℕ) (lim : Limits) (r : Recor
       go (waiting w) e f = absurd (false≢true (sym f))
       go unknown e f = refl
 
--- the order of records
-module _ (rs : List Record) (i : ℕ) where
-  pub order_other : waits (get_or rs i unknown) ≡ false → true ≡ order_at rs i
-  unfolding order_at
-  order_other e = ap (λ (b : Bool). cond b (cond (ltb (i + 1) (length rs)) (waits (get_or rs (i + 1) unknown)) true) true) (sym e)
-
-  module _ (is : waits (get_or rs i unknown) ≡ true) where
-    waiting_here : cond (ltb (i + 1) (length rs)) (waits (get_or rs (i + 1) unknown)) true ≡ order_at rs i
-    unfolding order_at
-    waiting_here = ap (λ (b : Bool). cond b (cond (ltb (i + 1) (length rs)) (waits (get_or rs (i + 1) unknown)) true) true) (sym is)
-
-    pub order_last : length rs ≤ i + 1 → true ≡ order_at rs i
-    order_last k = ap (λ (b : Bool). cond b (waits (get_or rs (i + 1) unknown)) true) (sym (le-ltb (i + 1) (length rs) k)) ∙ waiting_here
-
-    pub order_next : i + 1 < length rs → (x : Bool) → x ≡ waits (get_or rs (i + 1) unknown) → x ≡ order_at rs i
-    order_next k x ex =
-        ex ∙ (ap (λ (b : Bool). cond b (waits (get_or rs (i + 1) unknown)) true) (sym (lt-ltb (i + 1) (length rs) k)) ∙ waiting_here)
-
 -- links and buckets
 module _ (buckets : List ℕ) (i : ℕ) (k : Kind) where
   pub spare_other : is_join k ≡ false → true ≡ spares_buckets buckets i k
@@ -110,32 +92,16 @@ module _ (buckets : List ℕ) (i : ℕ) (k : Kind) where
       go (join half l r) e = absurd (false≢true (sym e))
       go dummy e = refl
 
-  module _ (is : is_join k ≡ true) (l : ℕ) (el : l ≡ left_link k) (a : Bool) (ea : a ≡ among buckets l) where
-    spare_join : (r : ℕ) → r ≡ right_link k → (not a && (not (among buckets r) || above buckets i r)) ≡ spares_buckets buckets i k
-    unfolding spares_buckets
-    spare_join r er =
-        ap (λ (b : Bool). not b && (not (among buckets r) || above buckets i r)) ea ∙
-        (ap₂ (λ (y z : ℕ). not (among buckets y) && (not (among buckets z) || above buckets i z)) el er ∙
-        ap (spares_buckets buckets i) (sym (join_parts k is)))
+  pub spare_join : is_join k ≡ true → (l r : ℕ) → l ≡ left_link k → r ≡ right_link k →
+      (not (among buckets l) && (not (among buckets r) || above buckets i r)) ≡ spares_buckets buckets i k
+  unfolding spares_buckets
+  spare_join is l r el er =
+      ap₂ (λ (y z : ℕ). not (among buckets y) && (not (among buckets z) || above buckets i z)) el er ∙
+      ap (spares_buckets buckets i) (sym (join_parts k is))
 
-    pub spare_left : a ≡ true → false ≡ spares_buckets buckets i k
-    spare_left t = ap (λ (b : Bool). not b && (not (among buckets (right_link k)) || above buckets i (right_link k))) (sym t) ∙ spare_join (right_link k) refl
-
-    module _ (free : a ≡ false) (r : ℕ) (er : r ≡ right_link k) (b : Bool) (eb : b ≡ among buckets r) where
-      right : (not b || above buckets i r) ≡ spares_buckets buckets i k
-      right =
-          ap (λ (c : Bool). not c || above buckets i r) eb ∙
-          (ap (λ (c : Bool). not c && (not (among buckets r) || above buckets i r)) (sym free) ∙ spare_join r er)
-
-      pub spare_below : b ≡ true → (x : Bool) → x ≡ above buckets i r → x ≡ spares_buckets buckets i k
-      spare_below t x ex = ex ∙ (ap (λ (c : Bool). not c || above buckets i r) (sym t) ∙ right)
-
-      pub spare_free : b ≡ false → true ≡ spares_buckets buckets i k
-      spare_free t = ap (λ (c : Bool). not c || above buckets i r) (sym t) ∙ right
-
--- where the walk starts
-pub right_start : (rs : List Record) (tares buckets : List ℕ) (lim : Limits) (records : ℕ) → records ≡ length rs →
-    rest (place_right rs tares buckets lim) records 0 ≡ records_right rs tares buckets lim
+-- the pass over every record
+pub pass_is : (rs : List Record) (tares buckets : List ℕ) (lim : Limits) (records : ℕ) → records ≡ length rs →
+    list_all (place_right rs tares buckets lim) (range_with_len 0 records) ≡ records_right rs tares buckets lim
 unfolding records_right
-right_start rs tares buckets lim records e =
-    walk_start (place_right rs tares buckets lim) records ∙ ap (λ (n : ℕ). all (place_right rs tares buckets lim) (rising n 0)) e
+pass_is rs tares buckets lim records e =
+    range_all (place_right rs tares buckets lim) records 0 ∙ ap (λ (n : ℕ). all (place_right rs tares buckets lim) (rising n 0)) e

@@ -1,34 +1,37 @@
 -- One law for each way through the tests of the check.
 use mathlib.Core.Path.{◌≡◌, refl, sym, ap, ap₂, ◌∙◌}
-use mathlib.Core.Bool.{Bool, true, false, not, ◌&&◌}
-use mathlib.Core.List.{List, [], ◌∷◌, map}
+use mathlib.Core.Bool.{Bool, true, false, ◌&&◌}
+use mathlib.Core.List.{List, map}
 use Prim.Native.Nat.{ℕ, zero, suc, ◌*◌, ◌-◌, ◌/◌, ◌%◌, ◌^◌, ◌≤◌, ◌<◌, min}
 use native.Mathlib.Omega.{arith}
 use native.Mathlib.Nat.{le-div_iff_mul-le, mod-eq_of_lt, suc-mul}
 use lib.Pow.{pow_mono, pow_pos}
 use lib.Dec.{eqb, leb, ltb}
 use lib.ListN.{length, take, drop}
-use lib.Seq.{take_all}
+use lib.IntN.{ℤ}
 use borrow.Author.Tests.{eq-eqb, ne_eqb, eqb-true, eqb-false, le-leb, lt-leb, leb-true, leb-false, ltb-true, ltb-false}
+use Rattle.std.proofs.Common.{Option, None, Some, cond}
+use Rattle.std.specs.Option.{is_some, option_eq}
 use Rattle.rules.specs.declared.State.{State}
 use Rattle.rules.specs.Lists.{all, among, distinct, total, rising}
 use Rattle.rules.specs.Numbers.{capacity}
 use Rattle.rules.specs.Digits.{power_of_two}
 use Rattle.rules.specs.Records.{Record, Entry, node_at, entries, records_of}
-use Rattle.rules.specs.Build.{tares_of, buckets_of, some_wait}
-use Rattle.rules.specs.WellFormed.{slots_within, waiting_last, kinds_known, outputs_rise, outputs_distinct}
-use Rattle.laws.specs.Records.Words.{image_of_records}
+use Rattle.rules.specs.Build.{tares_of, buckets_of, held}
+use Rattle.rules.specs.WellFormed.{slots_within, tares_within, buckets_within, marks_within, waiting_last, kinds_known, outputs_rise, outputs_distinct, well_formed, well_formed_clauses}
+use Rattle.laws.specs.Records.Words.{image_of_records, both}
 use Rattle.laws.specs.Lists.Facts.{All_make, total_cong, length_total}
 use Rattle.laws.specs.WellFormed.Whole.{records_length}
 use Rattle.records.specs.Carries.{Stores}
 use Rattle.check_records.specs.declared.Limits.{Limits}
 use Rattle.check_records.specs.Tests.{records_right}
-use Rattle.check_outputs.specs.declared.Budget.{Budget}
+use Rattle.check_outputs.specs.declared.Cost.TheVariants.{Count, Maximum, Weight}
 use Rattle.check_outputs.specs.Steps.{cost, total_cost, spent}
 use Rattle.check_inputs.specs.Steps.{waits_in}
-use Rattle.check_inputs.proofs.Inputs.{entries_few, waits_last}
-use Rattle.check_well_formed.specs.Groups.{numbered, Limited}
-use Rattle.check_well_formed.proofs.Clauses.{numbered_is, all_cong}
+use Rattle.check_inputs.proofs.Inputs.{waits_last}
+use Rattle.check_well_formed.specs.Groups.{state_right, state_right_clauses, numbered, numbered_clauses, records_hold, Limited}
+use Rattle.check_well_formed.proofs.Clauses.{numbered_is, all_cong, held_at}
+use Rattle.check_well_formed.proofs.Regroup.{regroup}
 
 -- slots of a known length
 pub slots_of : (xs : List ℕ) (used n : ℕ) (b : Bool) → length xs ≡ n → b ≡ slots_within (length xs) used xs (take used xs) →
@@ -36,73 +39,47 @@ pub slots_of : (xs : List ℕ) (used n : ℕ) (b : Bool) → length xs ≡ n →
 slots_of xs used n b e f = f ∙ ap (λ (k : ℕ). slots_within k used xs (take used xs)) e
 
 -- budgets
-module _ (n t : ℕ) (z : Budget) (e : z ≡ spent n t) where
-  pub few_is : not z.over ≡ leb t n
+module _ (n t : ℕ) (z : Option ℕ) (e : z ≡ spent n t) where
+  pub few_is : is_some z ≡ leb t n
   unfolding spent
-  few_is = ap (λ (y : Budget). not y.over) e ∙ go (ltb n t) refl
+  few_is = ap is_some e ∙ go (ltb n t) refl
     where
-      go : (b : Bool) → ltb n t ≡ b → not b ≡ leb t n
+      go : (b : Bool) → ltb n t ≡ b → is_some (cond b None (Some (n - t))) ≡ leb t n
       go true h = sym (lt-leb t n (ltb-true n t h))
       go false h = sym (le-leb t n (ltb-false n t h))
 
-  pub cost_over : z.over ≡ true → false ≡ eqb t n
+  pub cost_is : option_eq eqb z (Some 0) ≡ eqb t n
   unfolding spent
-  cost_over h =
-      let more : n < t = ltb-true n t (sym (ap (λ (y : Budget). y.over) e) ∙ h) in
-      sym (ne_eqb t n (λ q. omega arith))
-
-  pub cost_left : z.over ≡ false → eqb z.left 0 ≡ eqb t n
-  unfolding spent
-  cost_left h =
-      let less : t ≤ n = ltb-false n t (sym (ap (λ (y : Budget). y.over) e) ∙ h) in
-      ap (λ (y : Budget). eqb y.left 0) e ∙ go (eqb (n - t) 0) refl less
+  cost_is = ap (λ (y : Option ℕ). option_eq eqb y (Some 0)) e ∙ go (ltb n t) refl
     where
-      go : (b : Bool) → eqb (n - t) 0 ≡ b → t ≤ n → b ≡ eqb t n
-      go true q k = sym (eq-eqb t n (omega (arith, eqb-true (n - t) 0 q)))
-      go false q k = sym (ne_eqb t n (λ r. eqb-false (n - t) 0 q (omega arith)))
+      last : (b : Bool) → eqb (n - t) 0 ≡ b → t ≤ n → b ≡ eqb t n
+      last true q k = sym (eq-eqb t n (omega (arith, eqb-true (n - t) 0 q)))
+      last false q k = sym (ne_eqb t n (λ r. eqb-false (n - t) 0 q (omega arith)))
+
+      go : (b : Bool) → ltb n t ≡ b → option_eq eqb (cond b None (Some (n - t))) (Some 0) ≡ eqb t n
+      go true h = let more : n < t = ltb-true n t h in sym (ne_eqb t n (λ q. omega arith))
+      go false h = last (eqb (n - t) 0) refl (ltb-false n t h)
 
 module _ (rs : List Record) where
-  pub count_is : total_cost rs 0 rs ≡ length (entries rs)
+  pub count_is : total_cost rs Count rs ≡ length (entries rs)
   unfolding total_cost cost
-  count_is = total_cong (cost rs 0) (λ (e : Entry). 1) (entries rs) (All_make (λ e. cost rs 0 e ≡ 1) (λ e. refl) (entries rs)) ∙ sym (length_total (entries rs))
+  count_is = total_cong (cost rs Count) (λ (e : Entry). 1) (entries rs) (All_make (λ e. cost rs Count e ≡ 1) (λ e. refl) (entries rs)) ∙ sym (length_total (entries rs))
 
-  pub maxima_is : total_cost rs 1 rs ≡ total (map (λ (e : Entry). (node_at rs e.node).maximum) (entries rs))
+  pub maxima_is : total_cost rs Maximum rs ≡ total (map (λ (e : Entry). (node_at rs e.node).maximum) (entries rs))
   unfolding total_cost cost
-  maxima_is = total_cong (cost rs 1) (λ (e : Entry). (node_at rs e.node).maximum) (entries rs)
-      (All_make (λ e. cost rs 1 e ≡ (node_at rs e.node).maximum) (λ e. refl) (entries rs))
+  maxima_is = total_cong (cost rs Maximum) (λ (e : Entry). (node_at rs e.node).maximum) (entries rs)
+      (All_make (λ e. cost rs Maximum e ≡ (node_at rs e.node).maximum) (λ e. refl) (entries rs))
 
-  pub weights_is : total_cost rs 2 rs ≡ total (map (λ (e : Entry). e.weight) (entries rs))
+  pub weights_is : total_cost rs Weight rs ≡ total (map (λ (e : Entry). e.weight) (entries rs))
   unfolding total_cost cost
-  weights_is = total_cong (cost rs 2) (λ (e : Entry). e.weight) (entries rs) (All_make (λ e. cost rs 2 e ≡ e.weight) (λ e. refl) (entries rs))
-
-  pub wait_is : (b : Bool) → b ≡ leb (total_cost rs 0 rs) 0 → not b ≡ some_wait (entries rs)
-  unfolding some_wait
-  wait_is b e = ap not (e ∙ ap (λ (n : ℕ). leb n 0) count_is) ∙ go (entries rs)
-    where
-      go : (q : List Entry) → not (leb (length q) 0) ≡ some_wait q
-      go [] = refl
-      go (x ∷ q) = ap not (lt-leb (suc (length q)) 0 (omega arith))
+  weights_is = total_cong (cost rs Weight) (λ (e : Entry). e.weight) (entries rs) (All_make (λ e. cost rs Weight e ≡ e.weight) (λ e. refl) (entries rs))
 
   -- inputs that wait
-  module _ (records inputs : ℕ) (count : records ≡ length rs) (b : Bool) (e : b ≡ eqb (total_cost rs 0 rs) inputs) where
-    counted : b ≡ eqb (length (entries rs)) inputs
-    counted = e ∙ ap (λ (n : ℕ). eqb n inputs) count_is
-
-    pub count_other : b ≡ false → eqb (length (entries rs)) inputs ≡ false
-    count_other h = sym counted ∙ h
-
-    pub count_same : b ≡ true → eqb (length (entries rs)) inputs ≡ true
-    count_same h = sym counted ∙ h
-
-    pub count_fits : b ≡ true → inputs ≤ records
-    count_fits h = omega (arith, eqb-true (length (entries rs)) inputs (count_same h), entries_few rs)
-
-    pub each_is : b ≡ true → waiting_last rs ≡ true → (x : Bool) → x ≡ all (waits_in (drop (records - inputs) rs)) (rising inputs 0) →
-        x ≡ all (among (map (λ (e : Entry). e.node) (entries rs))) (rising inputs 0)
-    each_is h last x ex =
-        ex ∙ (ap (λ (n : ℕ). all (waits_in (drop (n - inputs) rs)) (rising inputs 0)) count ∙
-        all_cong (waits_in (drop (length rs - inputs) rs)) (among (map (λ (e : Entry). e.node) (entries rs)))
-        (waits_last rs inputs last (eqb-true (length (entries rs)) inputs (count_same h))) (rising inputs 0))
+  pub each_is : (records inputs : ℕ) → records ≡ length rs → waiting_last rs ≡ true → length (entries rs) ≡ inputs →
+      all (waits_in (drop (records - inputs) rs)) (rising inputs 0) ≡ all (among (map (λ (e : Entry). e.node) (entries rs))) (rising inputs 0)
+  each_is records inputs count last e =
+      ap (λ (n : ℕ). all (waits_in (drop (n - inputs) rs)) (rising inputs 0)) count ∙
+      all_cong (waits_in (drop (length rs - inputs) rs)) (among (map (λ (e : Entry). e.node) (entries rs))) (waits_last rs inputs last e) (rising inputs 0)
 
 -- powers
 pub power_positive : (n : ℕ) → power_of_two n ≡ true → 1 ≤ n
@@ -135,20 +112,6 @@ module _ (t : ℕ) where
       go true q = sym (le-leb (n * 2 ^ t) (2 ^ 19) ((le-div_iff_mul-le (pow_pos t)).0 (leb-true n (524288 / 2 ^ t) q)))
       go false q = over (ltb (2 ^ 19) (n * 2 ^ t)) refl (leb-false n (524288 / 2 ^ t) q)
 
--- the used slots
-pub take_front : (xs slots : List ℕ) (used k : ℕ) → k ≡ min used (length xs) → xs ≡ slots → take k xs ≡ take used slots
-take_front xs slots used k e f = ap (λ (j : ℕ). take j xs) e ∙ (go (leb used (length xs)) refl ∙ ap (take used) f)
-  where
-    go : (b : Bool) → leb used (length xs) ≡ b → take (min used (length xs)) xs ≡ take used xs
-    go true q =
-        let h : used ≤ length xs = leb-true used (length xs) q in
-        let m : min used (length xs) ≡ used = omega arith in
-        ap (λ (j : ℕ). take j xs) m
-    go false q =
-        let h : length xs < used = leb-false used (length xs) q in
-        let m : min used (length xs) ≡ length xs = omega arith in
-        ap (λ (j : ℕ). take j xs) m ∙ (take_all (length xs) xs (omega arith) ∙ sym (take_all used xs (omega arith)))
-
 -- the pass over the used slots
 pub numbered_way : (s : State) (rs : List Record) (lim : Limits) → Limited s rs lim → (t b : List ℕ) → t ≡ tares_of s → b ≡ buckets_of s →
     (records_right rs t b lim && (outputs_rise rs && (outputs_distinct rs && (distinct t && all (λ n. leb lim.low n && ltb n lim.fresh) t)))) ≡
@@ -177,3 +140,21 @@ unfolding capacity
 marks_few store records e =
     let h : records ≤ min (length store / 8) 4294967296 = leb-true records _ e in
     omega arith
+
+-- records that pass hold their waiting entries last
+pub numbered_last : (s : State) (rs : List Record) → numbered s rs ≡ true → waiting_last rs ≡ true
+unfolding numbered numbered_clauses
+numbered_last s rs e = held_at (numbered_clauses s rs) e 0
+
+-- a right state uses no more slots than there are
+pub slots_few : (s : State) → state_right s ≡ true → (s.tares_used ≤ 19) × (s.buckets_used ≤ 20)
+unfolding state_right state_right_clauses tares_within buckets_within slots_within
+slots_few s e =
+    let (tares, buckets) = both (tares_within s) (buckets_within s) (held_at (state_right_clauses s) e 0) in
+    (leb-true s.tares_used 19 (both _ _ tares).0, leb-true s.buckets_used 20 (both _ _ buckets).0)
+
+-- the tests in turn
+pub well_formed_is : (s : State) (store : List ℕ) (clauses : List ℤ) →
+    (marks_within s store clauses && (state_right s && (kinds_known (records_of store s.records) && records_hold s (records_of store s.records)))) ≡ well_formed s store clauses
+unfolding well_formed well_formed_clauses all held
+well_formed_is s store clauses = ap (λ (b : Bool). marks_within s store clauses && b) (regroup s (records_of store s.records))

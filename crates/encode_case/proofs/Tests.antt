@@ -9,7 +9,10 @@ use lib.Dec.{eqb, leb, ltb}
 use lib.ListN.{get_or}
 use lib.IntN.{ℤ}
 use borrow.Author.Tests.{eqb-true, eqb-false, eq-eqb, ne_eqb, leb-true, leb-false, le-leb, lt-leb, ltb-false, le-ltb, lt-ltb}
+use Rattle.std.specs.Prelude.{Result, Ok, Err}
 use Rattle.rules.specs.declared.State.{State}
+use Rattle.rules.specs.declared.Refusal.{Refusal}
+use Rattle.rules.specs.declared.Refusal.TheVariants.{DivisorAbove}
 use Rattle.rules.specs.Lists.{all, in_turn, rising}
 use Rattle.rules.specs.Records.{Node, Output, Record, waiting, node_at, outputs}
 use Rattle.rules.specs.Totalizer.{Arena, number_in, number_of, define_output}
@@ -32,13 +35,13 @@ use Rattle.encode_case.specs.Call.{Begins}
 use Rattle.encode_case.proofs.Ways.{first_way, refined_way, stands, stands_built, built_is, encode_way}
 use Rattle.encode_case.proofs.Idle.{all_idle, some_taken}
 
-pub asked_yes : (s : State) (lo end : ℕ) → end ≤ lo → (store : List ℕ) → true ≡ nothing_asked (build_of s store) lo end
-unfolding nothing_asked
-asked_yes s lo end h store = sym (ap (λ (t : Bool). t || ltb (build_of s store).inputs 2) (le-leb end lo h))
-
-pub asked_by : (s : State) (lo end : ℕ) (r : Bool) → lo < end → r ≡ ltb s.inputs 2 → (store : List ℕ) → r ≡ nothing_asked (build_of s store) lo end
+pub asked_yes : (s : State) (lo end : ℕ) → end ≤ lo → (store : List ℕ) → leb end lo ≡ nothing_asked (build_of s store) lo end
 unfolding nothing_asked build_of build_over
-asked_by s lo end r h e store = e ∙ sym (ap (λ (t : Bool). t || ltb s.inputs 2) (lt-leb end lo h))
+asked_yes s lo end h store = let yes : leb end lo ≡ true = le-leb end lo h in yes ∙ sym (ap (λ (t : Bool). t || ltb s.inputs 2) yes)
+
+pub asked_by : (s : State) (lo end : ℕ) → lo < end → (store : List ℕ) → ltb s.inputs 2 ≡ nothing_asked (build_of s store) lo end
+unfolding nothing_asked build_of build_over
+asked_by s lo end h store = sym (ap (λ (t : Bool). t || ltb s.inputs 2) (lt-leb end lo h))
 
 pub asked_range : (b : Build) (lo end : ℕ) → nothing_asked b lo end ≡ false → lo < end
 unfolding nothing_asked
@@ -50,31 +53,81 @@ asked_two b lo end e = ltb-false b.inputs 2 (neither (leb end lo) (ltb b.inputs 
 
 -- Which case it is ------------------------------------------------------------------------------------------------------------------
 
+-- a case by its tests
+case_by : (b : Build) (t u : Bool) → divisor_above b ≡ t → reaches b ≡ u → case_of b ≡ cond t (Err DivisorAbove) (Ok (record { due = u; built = cond u b.set b.built }))
+unfolding case_of
+case_by b t u p q =
+    ap₂ (λ (x y : Bool). by x y) p q
+  where
+    by : Bool → Bool → Result Case Refusal
+    by x y = cond x (Err DivisorAbove) (Ok (record { due = y; built = cond y b.set b.built }))
+
 module _ (s : State) (store : List ℕ) (x : ℕ) (is : x ≡ largest (build_of s store).queue) where
   abbrev here : Build
   here = build_of s store
 
-  pub case_due : s.set ≤ x → ◌≡◌ {A = Case} (record { above = false; due = true; built = s.set }) (case_of here)
-  unfolding case_of reaches divisor_above build_of build_over
+  pub case_due : s.set ≤ x → Ok (record { due = true; built = s.set }) ≡ case_of here
+  unfolding reaches divisor_above build_of build_over
   case_due h =
       let low : ltb (largest here.queue) s.set ≡ false = le-ltb (largest here.queue) s.set (omega (arith, is)) in
       let up : leb s.set (largest here.queue) ≡ true = le-leb s.set (largest here.queue) (omega (arith, is)) in
-      sym (ap₂ (λ (y z : Bool). record { above = y; due = z; built = cond z s.set s.built }) (ap (λ (y : Bool). unbuilt here && y) low ∙ none (unbuilt here)) up)
+      sym (case_by here false true (ap (λ (y : Bool). unbuilt here && y) low ∙ none (unbuilt here)) up)
     where
       none : (t : Bool) → (t && false) ≡ false
       none true = refl
       none false = refl
 
-  pub case_left : x < s.set → ◌≡◌ {A = Case} (record { above = eqb s.built 0; due = false; built = s.built }) (case_of here)
-  unfolding case_of reaches divisor_above unbuilt build_of build_over
-  case_left h =
-      let high : ltb (largest here.queue) s.set ≡ true = lt-ltb (largest here.queue) s.set (omega (arith, is)) in
-      let low : leb s.set (largest here.queue) ≡ false = lt-leb s.set (largest here.queue) (omega (arith, is)) in
-      sym (ap₂ (λ (y z : Bool). record { above = y; due = z; built = cond z s.set s.built }) (ap (λ (y : Bool). eqb s.built 0 && y) high ∙ only (eqb s.built 0)) low)
-    where
-      only : (t : Bool) → (t && true) ≡ t
-      only true = refl
-      only false = refl
+  module _ (h : x < s.set) where
+    low : reaches here ≡ false
+    unfolding reaches build_of build_over
+    low = lt-leb s.set (largest here.queue) (omega (arith, is))
+
+    above_by : (t : Bool) → eqb s.built 0 ≡ t → divisor_above here ≡ t
+    unfolding divisor_above unbuilt build_of build_over
+    above_by t e =
+        let high : ltb (largest here.queue) s.set ≡ true = lt-ltb (largest here.queue) s.set (omega (arith, is)) in
+        ap₂ (λ (y z : Bool). y && z) e high ∙ only t
+      where
+        only : (t : Bool) → (t && true) ≡ t
+        only true = refl
+        only false = refl
+
+    pub case_above : s.built ≡ 0 → Err DivisorAbove ≡ case_of here
+    case_above z = sym (case_by here true false (above_by true (eq-eqb s.built 0 z)) low)
+
+    pub case_left : s.built ≢ 0 → Ok (record { due = false; built = s.built }) ≡ case_of here
+    unfolding build_of build_over
+    case_left z = sym (case_by here false false (above_by false (ne_eqb s.built 0 z)) low)
+
+-- what a case says of the build
+pub record Found (b : Build) (case : Case) : Type 0 where
+  pub not_above : divisor_above b ≡ false
+  pub due_is : case.due ≡ reaches b
+  pub built_is : case.built ≡ cond (reaches b) b.set b.built
+
+pub case_found : (b : Build) (case : Case) → Ok case ≡ case_of b → Found b case
+case_found b case e = go (divisor_above b) refl
+  where
+    here : Case
+    here = record { due = reaches b; built = cond (reaches b) b.set b.built }
+
+    go : (t : Bool) → divisor_above b ≡ t → Found b case
+    go true p = let no : Ok case ≡ Err DivisorAbove = e ∙ case_by b true (reaches b) p refl in absurd (cc)
+    go false p =
+        let same : Ok case ≡ Ok here = e ∙ case_by b false (reaches b) p refl in
+        let is : case ≡ here = cc in
+        record { not_above = p; due_is = ap (λ (c : Case). c.due) is; built_is = ap (λ (c : Case). c.built) is }
+
+-- and what its refusal does
+pub case_refused : (b : Build) (r : Refusal) → Err r ≡ case_of b → (r ≡ DivisorAbove) × (divisor_above b ≡ true)
+case_refused b r e = go (divisor_above b) refl
+  where
+    here : Case
+    here = record { due = reaches b; built = cond (reaches b) b.set b.built }
+
+    go : (t : Bool) → divisor_above b ≡ t → (r ≡ DivisorAbove) × (divisor_above b ≡ true)
+    go true p = let same : Err r ≡ Err DivisorAbove = e ∙ case_by b true (reaches b) p refl in (cc, p)
+    go false p = let no : Err r ≡ Ok here = e ∙ case_by b false (reaches b) p refl in absurd (cc)
 
 -- the largest waiting weight is at least the set divisor
 pub reaches_least : (s : State) (store : List ℕ) → reaches (build_of s store) ≡ true → s.set ≤ largest (build_of s store).queue
@@ -111,9 +164,9 @@ module _ (s : State) (store : List ℕ) (clauses : List ℤ) (range : Range) (be
             omega (arith, waiting_below b begins.well.formed n, (begins.well.formed.if_built n).power, e, leb-true s.set (largest b.queue) r)
 
   -- the built divisor afterwards
-  pub built_after : (case_of b).built ≡ (prepared b).built
-  unfolding case_of build_of build_over
-  built_after = go (reaches b) refl
+  pub built_after : (case : Case) → Ok case ≡ case_of b → case.built ≡ (prepared b).built
+  unfolding build_of build_over
+  built_after case e = (case_found b case e).built_is ∙ go (reaches b) refl
     where
       go : (t : Bool) → reaches b ≡ t → cond t s.set s.built ≡ (prepared b).built
       go true r = sym (due_built r (unbuilt b) refl)

@@ -9,13 +9,13 @@ ghost use Rattle.encode_case.specs.Case.{reaches, case_of};
 ghost use Rattle.encode_case.specs.Call.{Begins};
 
 use encode_outputs::Range;
-use rules::State;
+use records::Store;
+use rules::{Refusal, State};
 
 // Which case it is, by the largest waiting weight against the set divisor: the first build or a refinement is due where it reaches
-// the divisor; else what stands is left, or, where nothing stands yet, 10 refuses: the divisor is above every weight.
+// the divisor; else what stands is left.
 #[derive(Clone, Copy)]
 pub struct Case {
-    pub above: bool,
     pub due: bool,
     // the built divisor afterwards
     pub built: u64,
@@ -25,27 +25,29 @@ pub struct Case {
 pub fn nothing_asked(s: State, range: Range) -> bool
     ensures { (store : List ℕ) → result ≡ nothing_asked (build_of s store) range.lo range.end }
 {
-    if range.end <= range.lo {
-        return true;
-    }
-    s.inputs < 2
+    range.end <= range.lo || s.inputs < 2
 }
 
-// Which case it is. Linear in the records.
-pub fn which_case(s: State, store: &[u32]) -> Case
+// Which case it is; 10 where nothing stands yet and the divisor is above every weight. Linear in the records.
+pub fn which_case(s: State, store: &[u32]) -> Result<Case, Refusal>
     ensures { (c : List ℤ) → WellFormed s store.now c → result ≡ case_of (build_of s store.now) }
 {
-    if s.set <= (records_waiting::largest(store, s.records) as u64) {
-        return Case {
-            above: false,
+    let used = Store {
+        words: store,
+        records: s.records,
+    };
+    if s.set <= records_waiting::largest(used) as u64 {
+        Ok(Case {
             due: true,
             built: s.set,
-        };
-    }
-    Case {
-        above: s.built == 0,
-        due: false,
-        built: s.built,
+        })
+    } else if s.built == 0 {
+        Err(Refusal::DivisorAbove)
+    } else {
+        Ok(Case {
+            due: false,
+            built: s.built,
+        })
     }
 }
 
@@ -58,9 +60,11 @@ pub fn nothing_to_do(s: State, store: &[u32], due: bool, range: Range) -> bool
     if due {
         return false;
     }
-    let buckets = s.buckets;
-    let root = buckets[0];
-    let most = records::maximum(store, s.records, root);
-    let vs = encode_outputs::values(most, s.tares_used, range);
-    encode_outputs::all_defined(store, s.records, root, vs)
+    let used = Store {
+        words: store,
+        records: s.records,
+    };
+    let root = s.buckets[0];
+    let vs = encode_outputs::values(used.maximum(root), s.tares_used, range);
+    encode_outputs::all_defined(used, root, vs)
 }

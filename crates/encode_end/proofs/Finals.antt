@@ -9,11 +9,12 @@ use lib.ListN.{length, get_or, take, replicate}
 use lib.Seq.{get_or-take}
 use lib.IntN.{ℤ, pos}
 use Rattle.rules.specs.declared.State.{State}
-use Rattle.rules.specs.declared.Answer.TheVariants.{Accepted, Refused}
+use Rattle.std.specs.Prelude.{Ok, Err}
+use Rattle.rules.specs.declared.Refusal.TheVariants.{NoRoom}
 use Rattle.rules.specs.declared.Encoded.{Encoded}
 use Rattle.rules.specs.Lists.{padded}
 use Rattle.rules.specs.Numbers.{capacity}
-use Rattle.rules.specs.Refusals.{answer_of}
+use Rattle.rules.specs.Refusals.{answer_of, refusal_of, refusals}
 use Rattle.rules.specs.Records.{Record, Entry, waiting, waits}
 use Rattle.rules.specs.Build.{Build, records, clause_total, state_of, build_of, build_over, buckets_of, with_arena, restructured}
 use Rattle.rules.specs.Buckets.{build_structure}
@@ -34,6 +35,7 @@ use Rattle.build_begin.proofs.Begin.{count_is, stored}
 use Rattle.encode_outputs.specs.Taken.{with_waiting, whole}
 use Rattle.encode_undo.specs.Aside.{Roomy, Aside, Kept}
 use Rattle.encode_undo.proofs.Copying.{front_same}
+use Rattle.encode_case.specs.declared.Case.{Case}
 use Rattle.encode_case.specs.Case.{case_of}
 use Rattle.encode_case.specs.Call.{Call, found, reached, ended, Works}
 use Rattle.encode_case.proofs.Ways.{encode_way}
@@ -43,10 +45,6 @@ use Rattle.encode_end.specs.Settled.{totalled, settled, state_after}
 use Rattle.encode_end.proofs.Room.{no_room_full, room_fit, end_words}
 use Rattle.encode_end.proofs.Ends.{refused_7, accepted_done}
 use Rattle.encode_end.proofs.States.{Kin, prepared_kin, outputs_kin, Ends_with, state_is}
-
-pub all_zero : (ws xs : List ℕ) → xs ≡ padded 0 (length ws) (take 0 ws) → xs ≡ replicate (length ws) 0
-unfolding padded
-all_zero ws xs e = let z : length ws - 0 ≡ length ws = omega arith in e ∙ ap (λ (n : ℕ). replicate n 0) z
 
 -- numbers are only taken
 first_fresh : (b : Build) → b.arena.fresh ≤ (build_structure b).arena.fresh
@@ -150,10 +148,10 @@ module _ (k : Call) (works : Works k) where
             (encode_sound b k.range.lo k.range.end well.formed (asked_two b k.range.lo k.range.end works.begins.asked) works.begins.reached))
 
         pub undone_end : (x : EncodeEnd) (s₂ w₂ : List ℕ) → length s₂ ≡ length s₁ → take (8 * s.records) s₂ ≡ take (8 * s.records) k.store → length w₂ ≡ length k.work →
-            x ≡ settled (Refused 7) s s₂ c₁ w₂ → x ≡ ended k
-        unfolding settled totalled no_room_end encoded answer_of marks_at
+            x ≡ settled (Err NoRoom) s s₂ c₁ w₂ → x ≡ ended k
+        unfolding settled totalled no_room_end encoded answer_of refusal_of refusals marks_at
         undone_end x s₂ w₂ ls fs lw ex =
-            ex ∙ (end_is (totalled (Refused 7) s) (encoded 7 s) (padded 0 (length s₂) (take (8 * s.records) s₂)) (padded 0 (length k.store) (take (8 * s.records) k.store))
+            ex ∙ (end_is (totalled (Err NoRoom) s) (encoded 7 s) (padded 0 (length s₂) (take (8 * s.records) s₂)) (padded 0 (length k.store) (take (8 * s.records) k.store))
             (padded (pos 0) (length c₁) (take s.words c₁)) (padded (pos 0) (length k.clauses) (take s.words k.clauses)) (replicate (length w₂) 0) (replicate (length k.work) 0)
             refl (ap₂ (padded 0) (ls ∙ r.same_store) fs) (ap₂ (padded (pos 0)) r.same_buffer r.kept_buffer) (ap (λ (m : ℕ). replicate m 0) lw) ∙
             refused_7 k works.formed works.long no_10 none)
@@ -198,19 +196,19 @@ module _ (k : Call) (works : Works k) where
           slots = (r.fit fits).1;
         }
 
-        state_reached : (built : ℕ) → built ≡ (case_of b).built → state_after s built z ≡ state_of c
+        state_reached : (case : Case) → Ok case ≡ case_of b → state_after s case.built z ≡ state_of c
         unfolding build_of build_over encode_outputs with_arena restructured
-        state_reached built eb =
-            state_is s built z c (sym kin.inputs_same) (sym kin.sum_same) (sym kin.set_same) (eb ∙ built_after s k.store k.clauses k.range works.begins) ends_with
+        state_reached case eb =
+            state_is s case.built z c (sym kin.inputs_same) (sym kin.sum_same) (sym kin.set_same) (built_after s k.store k.clauses k.range works.begins case eb) ends_with
 
-        pub done_end : (x : EncodeEnd) (t : State) (built : ℕ) (w₂ : List ℕ) → built ≡ (case_of b).built → t ≡ state_after s built z → length w₂ ≡ length k.work →
-            x ≡ settled Accepted t s₁ c₁ w₂ → x ≡ ended k
+        pub done_end : (x : EncodeEnd) (t : State) (case : Case) (w₂ : List ℕ) → Ok case ≡ case_of b → t ≡ state_after s case.built z → length w₂ ≡ length k.work →
+            x ≡ settled (Ok tt) t s₁ c₁ w₂ → x ≡ ended k
         unfolding settled totalled state_after encoded_end encoded answer_of whole with_waiting with_records records written marks_at
-        done_end x t built w₂ eb et lw ex =
+        done_end x t case w₂ eb et lw ex =
             let words = held_zeroed e (st s₁ c₁ z.marks) (whole c) fits held in
-            ex ∙ (ap (λ (y : State). settled Accepted y s₁ c₁ w₂) et ∙
-            (end_is (totalled Accepted (state_after s built z)) (encoded 0 (state_of c)) (padded 0 (length s₁) (take (8 * z.marks.records) s₁)) (encoded_end s c k.store k.clauses k.work).store
+            ex ∙ (ap (λ (y : State). settled (Ok tt) y s₁ c₁ w₂) et ∙
+            (end_is (totalled (Ok tt) (state_after s case.built z)) (encoded 0 (state_of c)) (padded 0 (length s₁) (take (8 * z.marks.records) s₁)) (encoded_end s c k.store k.clauses k.work).store
             (padded (pos 0) (length c₁) (take z.marks.words c₁)) (encoded_end s c k.store k.clauses k.work).clauses (replicate (length w₂) 0) (replicate (length k.work) 0)
-            (ap (totalled Accepted) (state_reached built eb)) words.0 words.1 (ap (λ (m : ℕ). replicate m 0) lw) ∙
+            (ap (totalled (Ok tt)) (state_reached case eb)) words.0 words.1 (ap (λ (m : ℕ). replicate m 0) lw) ∙
             (ap (λ (y : Build). encoded_end s y k.store k.clauses k.work) (sym way) ∙
             accepted_done k works.formed works.long no_10 some_room works.left)))

@@ -1,17 +1,17 @@
 -- An answer with its state, everything past the state's marks 0, and the state that holds what was reached.
-use Rattle.std.specs.Prelude.{List, ℕ, ◌+◌, ◌*◌, ◌-◌, length, take, replicate, ℤ, pos}
+use Rattle.std.specs.Prelude.{List, ℕ, ◌+◌, ◌*◌, ◌-◌, length, take, replicate, ℤ, pos, Result, ⊤}
 use Rattle.rules.specs.declared.State.{State}
-use Rattle.rules.specs.declared.Answer.{Answer}
+use Rattle.rules.specs.declared.Refusal.{Refusal}
 use Rattle.rules.specs.declared.Encoded.{Encoded}
 use Rattle.rules.specs.Lists.{padded}
 use Rattle.rules.specs.Encode.{EncodeEnd}
 use Rattle.build_begin.specs.declared.Structure.{Structure}
 
 -- the totals beside an answer are those of its state
-unfoldable pub totalled : Answer → State → Encoded
+unfoldable pub totalled : Result ⊤ Refusal → State → Encoded
 totalled a s = record { answer = a; clauses = s.clauses; variables = s.variables; state = s }
 
-unfoldable pub settled : Answer → State → List ℕ → List ℤ → List ℕ → EncodeEnd
+unfoldable pub settled : Result ⊤ Refusal → State → List ℕ → List ℤ → List ℕ → EncodeEnd
 unfolding totalled padded
 settled a s store clauses work = record {
   answer = totalled a s;

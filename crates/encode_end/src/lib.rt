@@ -12,25 +12,24 @@ ghost use Rattle.encode_end.specs.Settled.{totalled, settled, state_after};
 use build_begin::Structure;
 use encode_case::Case;
 use encode_outputs::Range;
-use rules::{Answer, Encoded, State};
+use records::Store;
+use rules::{Encoded, Refusal, State};
 
 // The answer with the totals of its state. Constant time.
-pub fn encoded(answer: Answer, s: State) -> Encoded
+pub fn encoded(answer: Result<(), Refusal>, s: State) -> Encoded
     ensures { result ≡ totalled answer s }
 {
-    let clauses = s.clauses;
-    let variables = s.variables;
     Encoded {
         answer,
-        clauses,
-        variables,
+        clauses: s.clauses,
+        variables: s.variables,
         state: s,
     }
 }
 
 // The answer with its state, and every word past the state's marks, and the work slice, set to 0. Linear in the words set.
 fn settled(
-    answer: Answer,
+    answer: Result<(), Refusal>,
     s: State,
     store: &mut [u32],
     clauses: &mut [i32],
@@ -41,7 +40,7 @@ fn settled(
 {
     records_words::zero_words(store, records::WORDS * s.records);
     records_words::zero_signed(clauses, s.words);
-    records_words::zero_words(work, 0);
+    work.fill(0);
     encoded(answer, s)
 }
 
@@ -50,13 +49,15 @@ fn state_after(s: State, built: u64, z: Structure) -> State
     requires { (s.fresh ≤ z.marks.fresh) × (s.variables ≤ s.fresh) }
     ensures { result ≡ state_after s built z }
 {
-    let m = z.marks;
-    let tares = z.tares;
-    let buckets = z.buckets;
+    let Structure {
+        marks: m,
+        tares,
+        tares_used,
+        buckets,
+        buckets_used,
+        ..
+    } = z;
     State {
-        inputs: s.inputs,
-        sum: s.sum,
-        set: s.set,
         built,
         records: m.records,
         words: m.words,
@@ -64,9 +65,10 @@ fn state_after(s: State, built: u64, z: Structure) -> State
         variables: s.variables + (m.fresh - s.fresh),
         fresh: m.fresh,
         tares,
-        tares_used: z.tares_used,
+        tares_used,
         buckets,
-        buckets_used: z.buckets_used,
+        buckets_used,
+        ..s
     }
 }
 
@@ -80,19 +82,20 @@ pub fn carried_out(
     case: Case,
     range: Range,
 ) -> Encoded
-    requires { Works (record { s = s; store = store.old; clauses = clauses.old; work = work.old; range = range }) × (case ≡ case_of (build_of s store.old)) }
+    requires { Works (record { s = s; store = store.old; clauses = clauses.old; work = work.old; range = range }) × (Ok case ≡ case_of (build_of s store.old)) }
     ensures { record { answer = result; store = store.new; clauses = clauses.new; work = work.new } ≡ encode_ub_change s store.old clauses.old work.old range.lo range.end }
 {
-    let n = build_begin::before_waiting(store, s.records);
+    let n = build_begin::before_waiting(Store {
+        words: store,
+        records: s.records,
+    });
     encode_undo::set_aside(s, store, work, n);
     let z = encode_reach::reach(s, store, clauses, work, n, case.due, range);
-    let m = z.marks;
-    if m.full {
+    if z.marks.full {
         encode_undo::put_back(s, store, work, n);
-        let refused = Answer::Refused(7);
-        return settled(refused, s, store, clauses, work);
+        settled(Err(Refusal::NoRoom), s, store, clauses, work)
+    } else {
+        let state = state_after(s, case.built, z);
+        settled(Ok(()), state, store, clauses, work)
     }
-    let state = state_after(s, case.built, z);
-    let accepted = Answer::Accepted;
-    settled(accepted, state, store, clauses, work)
 }

@@ -14,7 +14,7 @@ use Rattle.rules.specs.Records.{Record}
 use Rattle.rules.specs.Build.{Build}
 use Rattle.rules.specs.Encode.{encode_outputs}
 use Rattle.laws.specs.Lists.Facts.{rising_length}
-use Rattle.records.specs.Carries.{St, st, Fits, Carries, Stores}
+use Rattle.records.specs.Carries.{St, st, Fits, Carries, Reads}
 use Rattle.records.proofs.Agree.{Agree, carries_same}
 use Rattle.build_begin.specs.declared.Structure.{Structure}
 use Rattle.build_begin.specs.Named.{with_marks, Slots}
@@ -42,7 +42,7 @@ values_determined κs a x y e f p q =
     (many_same x.many y.many x.first y.first same, first_same x.many y.many x.first y.first same)
 
 pub all_defined_determined : (κs : Lfts 1) (a : Dens κs all-defined-kinds.ps) (x y : (res_t all-defined-kinds.r κs).Denot) (e f : AtExit (ended_of 1 all-defined-kinds.ps all-defined-kinds.r) κs) →
-    all_defined.Post κs a x e → all_defined.Post κs a y f → (rs : List Record) → Stores a.0.now a.1.0 rs → x ≡ y
+    all_defined.Post κs a x e → all_defined.Post κs a y f → (rs : List Record) → Reads a.0 rs → x ≡ y
 all_defined_determined κs a x y e f p q rs h = p rs h ∙ sym (q rs h)
 
 pub completed_determined : (κs : Lfts 3) (a : Dens κs completed-kinds.ps) (x y : (res_t completed-kinds.r κs).Denot) (e f : AtExit (ended_of 3 completed-kinds.ps completed-kinds.r) κs) →

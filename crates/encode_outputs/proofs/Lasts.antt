@@ -1,5 +1,5 @@
 -- Outputs and then what waits, over a build whose root, tares and queue are named.
-use mathlib.Core.Path.{◌≡◌, refl, sym, ap, ap₂, ◌∙◌, subst}
+use mathlib.Core.Path.{◌≡◌, refl, ap, ap₂, ◌∙◌, subst}
 use mathlib.Core.Logic.{◌⊎◌, inl, inr}
 use mathlib.Core.List.{List, [], ◌∷◌, map}
 use Prim.Native.Nat.{ℕ, zero, suc, ◌-◌}
@@ -9,15 +9,13 @@ use Rattle.rules.specs.Records.{Entry, waiting, node_at}
 use Rattle.rules.specs.Totalizer.{Arena, define_output}
 use Rattle.rules.specs.Build.{Build, root, root_node, output_weight, with_arena, restructured}
 use Rattle.rules.specs.Encode.{root_values, encode_outputs}
-use lib.IntN.{ℤ}
-use Rattle.records.specs.declared.Marks.{Marks}
-use Rattle.records.specs.Carries.{St, st, Fits, Carries, Steps}
+use Rattle.records.specs.Carries.{St, Fits, Carries, Steps}
 use Rattle.records.proofs.Grow.{Grows, grows_trans, fits_less, fits_or, records_more}
 use Rattle.records.proofs.Step.{over}
 use Rattle.totalizer_define.proofs.Growth.{turns_grow, output_grows}
 use Rattle.encode_outputs.specs.Values.{values, outputs_of}
 use Rattle.build_begin.specs.declared.Structure.{Structure}
-use Rattle.build_begin.specs.Named.{with_marks, Slots}
+use Rattle.build_begin.specs.Named.{Slots}
 use Rattle.encode_outputs.specs.Taken.{with_waiting, whole}
 
 outputs_grow : (root tares lo end : ℕ) (t : Arena) → Grows t (outputs_of root tares lo end t)
@@ -89,10 +87,3 @@ whole_grows p lo end =
     let t : Arena = outputs_of (root p) (length p.tares) lo end p.arena in
     subst (λ (u : Arena). Grows p.arena (with_waiting p.queue u)) (outputs_are p lo end)
     (grows_trans p.arena t (with_waiting p.queue t) (outputs_grow (root p) (length p.tares) lo end p.arena) (waiting_grows p.queue t))
-
--- the structure with other marks
-pub marked_with : (z x : Structure) (m : Marks) → x ≡ with_marks z m → x ≡ with_marks z x.marks
-marked_with z x m e = e ∙ ap (with_marks z) (sym (ap (λ (y : Structure). y.marks) e))
-
-pub marked_carries : (e : St) (s : List ℕ) (c : List ℤ) (z x : Structure) (m : Marks) (t : Arena) → x ≡ with_marks z m → Carries e (st s c m) t → Carries e (st s c x.marks) t
-marked_carries e s c z x m t q h = subst (λ (n : Marks). Carries e (st s c n) t) (sym (ap (λ (y : Structure). y.marks) q)) h

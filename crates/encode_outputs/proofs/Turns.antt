@@ -5,17 +5,19 @@ use mathlib.Core.List.{List, [], ◌∷◌, map, append_assoc, append-nil}
 use Prim.Native.Nat.{ℕ, zero, suc, ◌+◌, ◌*◌, ◌-◌, ◌/◌, ◌%◌, ◌^◌, ◌≤◌, ◌<◌, min}
 use native.Mathlib.Omega.{arith}
 use native.Mathlib.Nat.{div-lt_iff_lt-mul}
+use lib.Dec.{eqb}
 use lib.ListN.{get_or}
+use Rattle.std.specs.List.{list_all, range_with_len}
 use lib.IntN.{pos}
-use borrow.Author.Tests.{eq-eqb, ne_eqb}
+use borrow.Author.Tests.{ne_eqb}
 use Rattle.rules.specs.Lists.{all, in_turn, rising}
-use Rattle.rules.specs.Records.{Record, waiting, literal_word, node_at}
+use Rattle.rules.specs.Records.{Record, Entry, waiting, literal_word, node_at}
 use Rattle.rules.specs.Totalizer.{Arena, number_of, define_output}
 use Rattle.numbers.proofs.Bits.{power_whole}
 use Rattle.records.specs.declared.Marks.{Marks}
 use Rattle.records_words.specs.Words.{word_at}
 use Rattle.records.specs.Carries.{St, st, marks_of, Steps, Stores, with_record, with_records}
-use Rattle.records.proofs.Step.{Rest, rest_turn, stop, held}
+use Rattle.records.proofs.Step.{Rest, rest_start, rest_turn, stop, held}
 use Rattle.totalizer_define.proofs.Growth.{turns_grow, output_grows}
 use Rattle.encode_outputs.specs.Values.{values, outputs_of, all_defined}
 use Rattle.encode_outputs.specs.Taken.{entries_by, with_waiting}
@@ -71,53 +73,57 @@ outputs_done s c m τ root tares lo end most first many k top is p =
       ap (λ vs. in_turn (λ t v. define_output t root v) t vs) (is ∙ ap (λ (n : ℕ). values n tares lo end) (top t.records stores)),
     ))
 
-one : (k : ℕ) → (k ≡ suc k - 1) × (suc k ≡ k + 1)
-one k = (omega arith, omega arith)
+-- a number that was looked for
+pub tested : (x n : ℕ) (b : Bool) → x ≡ literal_word (pos n) → b ≡ not (eqb x 0) → b ≡ not (eqb n 0)
+unfolding literal_word
+tested x zero b p q = q ∙ ap (λ (k : ℕ). not (eqb k 0)) p
+tested x (suc n) b p q = q ∙ (ap (λ (k : ℕ). not (eqb k 0)) p ∙ ap not (ne_eqb (2 * suc n) 0 (λ z. absurd (omega arith)) ∙ sym (ne_eqb (suc n) 0 (λ z. absurd (omega arith)))))
 
--- values that are left to look for
-module _ (rs : List Record) (node : ℕ) where
-  pub defined_end : (k v : ℕ) → k ≤ 0 → true ≡ all_defined rs node (rising k v)
+-- values that are looked for by their distance from the first
+module _ (rs : List Record) (node first : ℕ) where
+  defined_from : (a n : ℕ) → list_all (λ i. not (eqb (number_of rs node (first + i)) 0)) (range_with_len a n) ≡ all_defined rs node (rising n (first + a))
   unfolding all_defined all rising
-  defined_end zero v h = refl
-  defined_end (suc k) v h = absurd (omega arith)
+  defined_from a zero = refl
+  defined_from a (suc n) =
+      let next : first + (a + 1) ≡ suc (first + a) = omega arith in
+      ap (λ (b : Bool). not (eqb (number_of rs node (first + a)) 0) && b) (defined_from (a + 1) n ∙ ap (λ (v : ℕ). all_defined rs node (rising n v)) next)
 
-  pub defined_stop : (k v x : ℕ) → 0 < k → x ≡ literal_word (pos (number_of rs node v)) → x ≡ 0 → false ≡ all_defined rs node (rising k v)
-  unfolding all_defined all rising literal_word
-  defined_stop zero v x h e z = absurd (omega arith)
-  defined_stop (suc k) v x h e z =
-      sym (ap (λ (b : Bool). not b && all_defined rs node (rising k (suc v))) (eq-eqb (number_of rs node v) 0 (omega arith)))
+  pub defined_values : (n : ℕ) → list_all (λ i. not (eqb (number_of rs node (first + i)) 0)) (range_with_len 0 n) ≡ all_defined rs node (rising n first)
+  defined_values n = let start : first + 0 ≡ first = omega arith in defined_from 0 n ∙ ap (λ (v : ℕ). all_defined rs node (rising n v)) start
 
-  pub defined_on : (k v x : ℕ) → 0 < k → x ≡ literal_word (pos (number_of rs node v)) → (x ≡ 0 → ⊥) →
-      all_defined rs node (rising k v) ≡ all_defined rs node (rising (k - 1) (v + 1))
-  unfolding all_defined all rising literal_word
-  defined_on zero v x h e n = absurd (omega arith)
-  defined_on (suc k) v x h e n =
-      ap (λ (b : Bool). not b && all_defined rs node (rising k (suc v))) (ne_eqb (number_of rs node v) 0 (λ z. n (omega arith))) ∙
-      ap₂ (λ (a b : ℕ). all_defined rs node (rising a b)) (one k).0 (one v).1
+-- entries that are left to append, after k of n
+module _ (ws : List ℕ) (a b apart n : ℕ) where
+  pub waiting_start : (σ : St) → Rest σ σ (with_waiting (entries_by ws a b apart n)) (with_waiting (entries_by ws (a + 0 * apart) (b + 0 * apart) apart (n - 0)))
+  waiting_start σ =
+      let x : a + 0 * apart ≡ a = omega arith in
+      let y : b + 0 * apart ≡ b = omega arith in
+      let z : n - 0 ≡ n = omega arith in
+      rw (x, y, z) (rest_start σ (with_waiting (entries_by ws a b apart n)))
 
--- entries that are left to append
-pub waiting_end : (ws : List ℕ) (a b apart k : ℕ) → k ≤ 0 → (t : Arena) → with_waiting (entries_by ws a b apart k) t ≡ t
-unfolding with_waiting entries_by with_records
-waiting_end ws a b apart zero h t = ap (with_records t) (append-nil t.records)
-waiting_end ws a b apart (suc k) h t = absurd (omega arith)
+  pub waiting_end : (k : ℕ) → n ≤ k → (t : Arena) → with_waiting (entries_by ws (a + k * apart) (b + k * apart) apart (n - k)) t ≡ t
+  unfolding with_waiting entries_by with_records
+  waiting_end k h t = let none : n - k ≡ 0 = omega arith in rw none (ap (with_records t) (append-nil t.records))
 
-waiting_on : (ws : List ℕ) (a b apart k : ℕ) → 0 < k → (t : Arena) →
-    with_waiting (entries_by ws a b apart k) t ≡
-    with_waiting (entries_by ws (a + apart) (b + apart) apart (k - 1)) (with_record (waiting (record { node = get_or ws a 0; weight = get_or ws b 0 })) t)
-unfolding with_waiting entries_by with_records with_record
-waiting_on ws a b apart zero h t = absurd (omega arith)
-waiting_on ws a b apart (suc k) h t =
-    ap (with_records t)
-    (sym (append_assoc t.records (waiting (record { node = get_or ws a 0; weight = get_or ws b 0 }) ∷ []) (map waiting (entries_by ws (a + apart) (b + apart) apart k)))) ∙
-    ap (λ (j : ℕ). with_waiting (entries_by ws (a + apart) (b + apart) apart j) (with_record (waiting (record { node = get_or ws a 0; weight = get_or ws b 0 })) t))
-    (one k).0
+  waiting_on : (k : ℕ) → k < n → (t : Arena) →
+      with_waiting (entries_by ws (a + k * apart) (b + k * apart) apart (n - k)) t ≡
+      with_waiting (entries_by ws (a + (k + 1) * apart) (b + (k + 1) * apart) apart (n - (k + 1)))
+      (with_record (waiting (record { node = get_or ws (a + k * apart) 0; weight = get_or ws (b + k * apart) 0 })) t)
+  unfolding with_waiting entries_by with_records with_record
+  waiting_on k h t =
+      let more : n - k ≡ suc (n - (k + 1)) = omega arith in
+      let x : a + (k + 1) * apart ≡ a + k * apart + apart = omega arith in
+      let y : b + (k + 1) * apart ≡ b + k * apart + apart = omega arith in
+      let first : Entry = record { node = get_or ws (a + k * apart) 0; weight = get_or ws (b + k * apart) 0 } in
+      rw (more, x, y)
+      (ap (with_records t)
+      (sym (append_assoc t.records (waiting first ∷ []) (map waiting (entries_by ws (a + k * apart + apart) (b + k * apart + apart) apart (n - (k + 1)))))))
 
-pub waiting_turn : (σ₀ σ τ : St) (f : Arena → Arena) (ws : List ℕ) (a b apart k x y : ℕ) → 0 < k → x ≡ word_at ws a → y ≡ word_at ws b →
-    Steps σ τ (with_record (waiting (record { node = x; weight = y }))) → Rest σ₀ σ f (with_waiting (entries_by ws a b apart k)) →
-    Rest σ₀ τ f (with_waiting (entries_by ws (a + apart) (b + apart) apart (k - 1)))
-unfolding word_at
-waiting_turn σ₀ σ τ f ws a b apart k x y h p q s r =
-    rest_turn σ₀ σ τ f (with_waiting (entries_by ws a b apart k)) (with_waiting (entries_by ws (a + apart) (b + apart) apart (k - 1)))
-    (with_record (waiting (record { node = x; weight = y }))) s
-    (λ t. waiting_on ws a b apart k h t ∙
-    ap₂ (λ (n w : ℕ). with_waiting (entries_by ws (a + apart) (b + apart) apart (k - 1)) (with_record (waiting (record { node = n; weight = w })) t)) (sym p) (sym q)) r
+  pub waiting_turn : (σ₀ σ τ : St) (f : Arena → Arena) (k x y : ℕ) → k < n → x ≡ word_at ws (a + k * apart) → y ≡ word_at ws (b + k * apart) →
+      Steps σ τ (with_record (waiting (record { node = x; weight = y }))) → Rest σ₀ σ f (with_waiting (entries_by ws (a + k * apart) (b + k * apart) apart (n - k))) →
+      Rest σ₀ τ f (with_waiting (entries_by ws (a + (k + 1) * apart) (b + (k + 1) * apart) apart (n - (k + 1))))
+  unfolding word_at
+  waiting_turn σ₀ σ τ f k x y h p q s r =
+      rest_turn σ₀ σ τ f (with_waiting (entries_by ws (a + k * apart) (b + k * apart) apart (n - k)))
+      (with_waiting (entries_by ws (a + (k + 1) * apart) (b + (k + 1) * apart) apart (n - (k + 1)))) (with_record (waiting (record { node = x; weight = y }))) s
+      (λ t. waiting_on k h t ∙
+      ap₂ (λ (n' w : ℕ). with_waiting (entries_by ws (a + (k + 1) * apart) (b + (k + 1) * apart) apart (n - (k + 1))) (with_record (waiting (record { node = n'; weight = w })) t)) (sym p) (sym q)) r

@@ -1,20 +1,20 @@
 // What an encode appends last: the root outputs of its range, then what waits.
 #![tactic(auto)]
 
-ghost use Rattle.std.specs.Prelude.{◌≡◌, List, ◌+◌, ◌≤◌, ◌<◌, min, ℤ};
+ghost use Rattle.std.specs.Prelude.{◌≡◌, List, ◌+◌, ◌≤◌, ◌<◌, get_or, ℤ};
 ghost use Rattle.rules.specs.Lists.{rising};
 ghost use Rattle.rules.specs.Records.{Record};
 ghost use Rattle.rules.specs.Build.{Build};
 ghost use Rattle.rules.specs.Encode.{encode_outputs};
-ghost use Rattle.records.specs.Carries.{St, st, Fits, Carries, Steps, Stores};
+ghost use Rattle.records.specs.Carries.{St, st, Fits, Carries, Steps, Reads};
 ghost use Rattle.build_begin.specs.Named.{with_marks, Slots};
 ghost use Rattle.encode_outputs.specs.Values.{values, outputs_of, all_defined};
 ghost use Rattle.encode_outputs.specs.Taken.{Near, entries_at, with_waiting, whole};
 
 use build_begin::Structure;
-use records::Marks;
+use records::{Marks, Store};
 
-// A range of bounds: lo to end - 1.
+// A range of bounds: lo to end - 1. A type of its own, since std's Range is not Copy and this one is handed on by value.
 #[derive(Clone, Copy)]
 pub struct Range {
     pub lo: u64,
@@ -37,15 +37,6 @@ pub struct Places {
     pub many: usize,
 }
 
-fn lower(x: u64, y: u64) -> u64
-    ensures { result ≡ min x y }
-{
-    if x < y {
-        return x;
-    }
-    y
-}
-
 // The root outputs of the range, those above the maximum skipped. Constant time.
 pub fn values(most: u32, tares: u32, range: Range) -> Outputs
     requires { (tares ≤ 19) × (range.lo < range.end) }
@@ -53,10 +44,10 @@ pub fn values(most: u32, tares: u32, range: Range) -> Outputs
 {
     let w = numbers::power(tares);
     let low = range.lo / w;
-    if (most as u64) <= low {
+    if most as u64 <= low {
         return Outputs { first: 1, many: 0 };
     }
-    let high = lower((range.end - 1) / w + 1, most as u64);
+    let high = ((range.end - 1) / w + 1).min(most as u64);
     Outputs {
         first: (low + 1) as u32,
         many: (high - low) as usize,
@@ -64,40 +55,29 @@ pub fn values(most: u32, tares: u32, range: Range) -> Outputs
 }
 
 // The root outputs of the range, defined. A define for each.
-fn encode_outputs(
-    store: &mut [u32],
-    clauses: &mut [i32],
-    m: Marks,
-    root: u32,
-    tares: u32,
-    range: Range,
-) -> Marks
-    requires { (tares ≤ 19) × (range.lo < range.end) }
-    ensures { Steps (st store.old clauses.old m) (st store.new clauses.new result) (outputs_of root tares range.lo range.end) }
+fn encode_outputs(store: &mut [u32], clauses: &mut [i32], z: Structure, range: Range) -> Marks
+    requires { (z.tares_used ≤ 19) × (range.lo < range.end) }
+    ensures { Steps (st store.old clauses.old z.marks) (st store.new clauses.new result) (outputs_of (get_or z.buckets 0 0) z.tares_used range.lo range.end) }
 {
+    let m = z.marks;
     if m.full {
         return m;
     }
-    let most = records::maximum(store, m.records, root);
-    let v = values(most, tares, range);
+    let root = z.buckets[0];
+    let used = Store {
+        words: store,
+        records: m.records,
+    };
+    let v = values(used.maximum(root), z.tares_used, range);
     totalizer_define::define_from(store, clauses, m, root, v.first, v.many)
 }
 
 // Whether these outputs of the node are defined. A find for each.
-pub fn all_defined(store: &[u32], records: usize, node: u32, vs: Outputs) -> bool
+pub fn all_defined(store: Store, node: u32, vs: Outputs) -> bool
     requires { vs.first + vs.many ≤ 4294967296 }
-    ensures { (rs : List Record) → Stores store.now records rs → result ≡ all_defined rs node (rising vs.many vs.first) }
+    ensures { (rs : List Record) → Reads store.entry rs → result ≡ all_defined rs node (rising vs.many vs.first) }
 {
-    let mut v = vs.first as usize;
-    let mut k = vs.many;
-    while 0 < k {
-        if totalizer_find::find(store, records, node, v as u32) == 0 {
-            return false;
-        }
-        v += 1;
-        k -= 1;
-    }
-    true
+    (0..vs.many).all(|i| totalizer_find::find(store, node, vs.first + i as u32) != 0)
 }
 
 // The waiting entries of the work words behind the records. Linear in the entries.
@@ -106,37 +86,16 @@ fn append_waiting(store: &mut [u32], m: Marks, work: &[u32], at: Places) -> Mark
     ensures { (c : List ℤ) → Steps (st store.old c m) (st store.new c result) (with_waiting (entries_at work.now at)) }
 {
     let mut n = m;
-    let mut x = at.node;
-    let mut y = at.weight;
-    let mut k = at.many;
-    while 0 < k {
+    for k in 0..at.many {
+        let on = k * at.apart;
         n = records_append::waiting(
             store,
             n,
-            records_words::word(work, x),
-            records_words::word(work, y),
+            records_words::word(work, at.node + on),
+            records_words::word(work, at.weight + on),
         );
-        x += at.apart;
-        y += at.apart;
-        k -= 1;
     }
     n
-}
-
-// The structure with other marks. Constant time.
-fn marked(z: Structure, marks: Marks) -> Structure
-    ensures { result ≡ with_marks z marks }
-{
-    let tares = z.tares;
-    let buckets = z.buckets;
-    Structure {
-        marks,
-        head: z.head,
-        tares,
-        tares_used: z.tares_used,
-        buckets,
-        buckets_used: z.buckets_used,
-    }
 }
 
 // The root outputs of the range defined, and then what waits appended. A define for each output, linear in the entries.
@@ -154,8 +113,7 @@ pub fn completed(
         (Fits e p.arena → Slots z p × (entries_at work.now at ≡ p.queue)) →
         Carries e (st store.new clauses.new result.marks) (whole (encode_outputs p range.lo range.end)) }
 {
-    let buckets = z.buckets;
-    let n = encode_outputs(store, clauses, z.marks, buckets[0], z.tares_used, range);
+    let n = encode_outputs(store, clauses, z, range);
     let marks = append_waiting(store, n, work, at);
-    marked(z, marks)
+    Structure { marks, ..z }
 }

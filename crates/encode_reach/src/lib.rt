@@ -14,6 +14,7 @@ ghost use Rattle.encode_reach.specs.Reached.{standing, Structured, Reached};
 
 use build_begin::Structure;
 use encode_outputs::{Places, Range};
+use records::Store;
 use rules::State;
 
 // Where a build's work words begin, behind what is set aside.
@@ -26,15 +27,20 @@ const BUILD_WEIGHTS: usize = BUILD + build_line::PLACES;
 fn standing(s: State, n: usize) -> Structure
     ensures { result ≡ standing s n }
 {
-    let tares = s.tares;
-    let buckets = s.buckets;
+    let State {
+        tares,
+        tares_used,
+        buckets,
+        buckets_used,
+        ..
+    } = s;
     Structure {
         marks: build_begin::marks_at(s, n),
         head: build_line::PLACES,
         tares,
-        tares_used: s.tares_used,
+        tares_used,
         buckets,
-        buckets_used: s.buckets_used,
+        buckets_used,
     }
 }
 
@@ -50,11 +56,16 @@ fn structured(
     ensures { Structured (build_of s store.old) (st store.old clauses.old (marks_at s n)) (st store.new clauses.new result.marks) work.new result × (length work.new ≡ length work.old) × (result.head ≤ 512) × (result.tares_used ≤ 19) }
 {
     let m = build_begin::marks_at(s, n);
-    let h = build_tower::queued(store, work, n, s.records);
+    let used = Store {
+        words: store,
+        records: s.records,
+    };
+    let h = build_tower::queued(used, work, n);
     if s.built == 0 {
-        return build_first::build_structure(s, store, work, m, h);
+        build_first::build_structure(s, store, work, m, h)
+    } else {
+        refine_structure::merge_structures(s, store, clauses, work, m, h)
     }
-    refine_structure::merge_structures(s, store, clauses, work, m, h)
 }
 
 // The first build or the refinement, with the outputs of the range. Grows as those do, and a define for each output.
@@ -70,12 +81,11 @@ fn rebuilt(
     ensures { Reached (build_of s store.old).buckets (st store.old clauses.old (marks_at s n)) (st store.new clauses.new result.marks) (encode_outputs (prepared (build_of s store.old)) range.lo range.end) result × (length work.new ≡ length work.old) × (take 3072 work.new ≡ take 3072 work.old) }
 {
     let z = structured(s, store, clauses, &mut work[BUILD..], n);
-    let at = z.head;
     let queue = Places {
-        node: BUILD + at,
-        weight: BUILD_WEIGHTS + at,
+        node: BUILD + z.head,
+        weight: BUILD_WEIGHTS + z.head,
         apart: 1,
-        many: build_line::PLACES - at,
+        many: build_line::PLACES - z.head,
     };
     encode_outputs::completed(store, clauses, work, z, range, queue)
 }
@@ -95,13 +105,14 @@ pub fn reach(
     ensures { Reached (build_of s store.old).buckets (st store.old clauses.old (marks_at s n)) (st store.new clauses.new result.marks) (encode_outputs (prepared (build_of s store.old)) range.lo range.end) result × (length work.new ≡ length work.old) × (take 3072 work.new ≡ take 3072 work.old) }
 {
     if due {
-        return rebuilt(s, store, clauses, work, n, range);
+        rebuilt(s, store, clauses, work, n, range)
+    } else {
+        let saved = Places {
+            node: records::NODE,
+            weight: records::WEIGHT,
+            apart: records::WORDS,
+            many: s.records - n,
+        };
+        encode_outputs::completed(store, clauses, work, standing(s, n), range, saved)
     }
-    let saved = Places {
-        node: 1,
-        weight: 2,
-        apart: 8,
-        many: s.records - n,
-    };
-    encode_outputs::completed(store, clauses, work, standing(s, n), range, saved)
 }

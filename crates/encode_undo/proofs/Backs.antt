@@ -11,6 +11,7 @@ use Rattle.laws.specs.Lists.Facts.{occurs}
 use Rattle.laws.specs.Records.Images.{drop_take}
 use Rattle.encode_undo.specs.Copies.{copied, Saves, Restores}
 use Rattle.encode_undo.proofs.Copying.{front_same, copied_length}
+use Rattle.encode_undo.proofs.Saving.{saved_slots, restores_slots}
 use Rattle.encode_undo.specs.Aside.{Roomy, Aside, Kept}
 
 -- words copied to the front
@@ -19,8 +20,10 @@ unfolding copied
 front_copied from to a k h =
     take_at (take k (drop a from)) (drop (0 + k) to) k (length-take-le k (drop a from) (omega (arith, length-drop a from)))
 
-pub aside : (s : State) (o w v u : List ℕ) (n : ℕ) → Roomy s o w n → v ≡ copied o (8 * n) w 0 (8 * (s.records - n)) → Saves o v u s.buckets s.buckets_used → Aside s o u n × (length u ≡ length w)
-aside s o w v u n room e saves =
+pub aside : (s : State) (o w v u : List ℕ) (n : ℕ) → Roomy s o w n → v ≡ copied o (8 * n) w 0 (8 * (s.records - n)) → s.buckets_used ≤ length s.buckets →
+    Saves o v u (buckets_of s) (length (buckets_of s)) → Aside s o u n × (length u ≡ length w)
+unfolding buckets_of
+aside s o w v u n room e few saves =
     let k : ℕ = 8 * (s.records - n) in
     let lv : length v ≡ length w = ap length e ∙ copied_length o (8 * n) w 0 k (omega arith) (omega arith) in
     let lu : length u ≡ length w = saves.same_length ∙ lv in (
@@ -28,15 +31,16 @@ aside s o w v u n room e saves =
         long = omega arith;
         words = front_same u v k saves.same_length (omega arith) (λ i h. saves.below i (omega arith)) ∙
             (ap (take k) e ∙ front_copied o w (8 * n) k (omega arith));
-        saved = saves.saved;
+        saved = saved_slots o u s.buckets s.buckets_used few saves.saved;
       },
       lu,
     )
 
-pub back : (s : State) (x v y work : List ℕ) (n : ℕ) → Roomy s x work n → Restores x v work s.buckets s.buckets_used →
+pub back : (s : State) (x v y work : List ℕ) (n : ℕ) → Roomy s x work n → s.buckets_used ≤ length s.buckets →
+    Restores x v work (buckets_of s) (length (buckets_of s)) →
     y ≡ copied work 0 v (8 * n) (8 * (s.records - n)) → (o : List ℕ) → Aside s o work n → Kept s o x n → take (8 * s.records) y ≡ take (8 * s.records) o
 unfolding copied buckets_of
-back s x v y work n room rest e o a but =
+back s x v y work n room few slots e o a but =
     let k : ℕ = 8 * (s.records - n) in
     let sum : 8 * s.records ≡ 8 * n + k = omega arith in
     let lv : length v ≡ length o = rest.same_length ∙ but.same_length in
@@ -51,6 +55,9 @@ back s x v y work n room rest e o a but =
     ap₂ (λ (p q : List ℕ). p ++ q) (take-take (8 * n) (8 * n + k) o (omega arith)) (drop_take (8 * n) k o)) in
     whole ∙ (ap₂ (λ (p q : List ℕ). p ++ q) front a.words ∙ sym old)
   where
+    rest : Restores x v work s.buckets s.buckets_used
+    rest = restores_slots x v work s.buckets s.buckets_used few slots
+
     word : (i : ℕ) → i < 8 * n → (c : ℕ) → occurs (i / 8) (take s.buckets_used s.buckets) ≡ c → get_or v i 0 ≡ get_or o i 0
     word i h zero p = rest.others i p ∙ but.others i h p
     word i h (suc c) p = rest.back o a.saved i (omega arith)

@@ -7,11 +7,17 @@ use Prim.Native.Nat.{ℕ, zero, suc, ◌+◌, ◌*◌, ◌-◌, ◌/◌, ◌≤�
 use native.Mathlib.Omega.{arith}
 use lib.Dec.{ltb, eqb}
 use lib.ListN.{length, get_or, take}
-use lib.Seq.{take-suc, get_or-take}
+use lib.Seq.{take-suc, take-length, get_or-take, length-take-le}
 use borrow.Author.Tests.{ltb-true, ltb-false, eqb-true, eqb-false}
-use Rattle.laws.specs.Lists.Facts.{occurs, occurs_here, occurs_other, occurs_append}
+use Rattle.laws.specs.Lists.Facts.{All, occurs, occurs_here, occurs_other, occurs_append}
 use Rattle.encode_undo.specs.Copies.{copied, Saved, Saves, Restores}
 use Rattle.encode_undo.proofs.Copying.{copied_length, copied_in, copied_below, copied_above, front_same}
+
+-- the record of a bucket lies within the store
+pub slot : (s buckets : List ℕ) (i : ℕ) → i < length buckets → All (λ b. 8 * b + 8 ≤ length s) buckets → 8 * get_or buckets i 0 + 8 ≤ length s
+slot s [] i h a = absurd (omega arith)
+slot s (b ∷ bs) zero h a = a.0
+slot s (b ∷ bs) (suc i) h a = slot s bs i (omega arith) a.1
 
 -- the first i buckets are saved
 pub saves_start : (s w buckets : List ℕ) → Saves s w w buckets 0
@@ -47,9 +53,6 @@ saves_turn s w w' w'' buckets i low room in-s p h = record {
         let is : k ≡ i = omega arith in
         subst (λ (n : ℕ). get_or w'' (2048 + 8 * n + j) 0 ≡ get_or s (8 * get_or buckets n 0 + j) 0) (sym is)
         (ap (λ (z : List ℕ). get_or z (2048 + 8 * i + j) 0) p ∙ copied_in s (8 * b) w' (2048 + 8 * i) 8 in-s in_w j few)
-
-pub saves_end : (s w w' buckets : List ℕ) (i used : ℕ) → i ≤ used → used ≤ i → Saves s w w' buckets i → Saves s w w' buckets used
-saves_end s w w' buckets i used h k e = let same : used ≡ i = omega arith in rw same e
 
 -- what was saved of all, was saved of the first
 fewer : (o w buckets : List ℕ) (i used : ℕ) → i ≤ used → Saved o w buckets used → Saved o w buckets i
@@ -119,9 +122,6 @@ restores_turn s s' s'' w buckets i inside low room in-s p h = record {
     none_at k none false e =
         kept k (eqb-false (k / 8) b e) ∙ h.others k (omega (arith, none, occurs_slot buckets i (k / 8) inside))
 
-pub restores_end : (s s' w buckets : List ℕ) (i used : ℕ) → i ≤ used → used ≤ i → Restores s s' w buckets i → Restores s s' w buckets used
-restores_end s s' w buckets i used h k e = let same : used ≡ i = omega arith in rw same e
-
 -- a store whose buckets were changed, and whose front was kept since, has its front again as it was saved
 pub restored_front : (s s' x x' w buckets : List ℕ) (used n : ℕ) → Saved s w buckets used →
     ((k : ℕ) → occurs (k / 8) (take used buckets) ≡ 0 → get_or s' k 0 ≡ get_or s k 0) → take n x ≡ take n s' → Restores x x' w buckets used →
@@ -134,3 +134,27 @@ restored_front s s' x x' w buckets used n saved same front r long h =
         r.others k e ∙
         (sym (get_or-take n x k 0 low) ∙ (ap (λ (z : List ℕ). get_or z k 0) front ∙ (get_or-take n s' k 0 low ∙ same k e)))
     go k low (suc m) e = r.back s saved k (omega arith)
+
+-- The used slots of an array as a slice --------------------------------------------------------------------------------------------
+
+module _ (o w xs : List ℕ) (n : ℕ) (few : n ≤ length xs) where
+  many : length (take n xs) ≡ n
+  many = length-take-le n xs few
+
+  pub saved_slots : Saved o w (take n xs) (length (take n xs)) → Saved o w xs n
+  saved_slots h = record { at = λ i j here low. h.at i j (omega (arith, many)) low ∙ ap (λ (b : ℕ). get_or o (8 * b + j) 0) (get_or-take n xs i 0 here) }
+
+  pub slots_saved : Saved o w xs n → Saved o w (take n xs) (length (take n xs))
+  slots_saved h = record {
+    at = λ i j here low.
+        let less : i < n = omega (arith, many) in h.at i j less low ∙ ap (λ (b : ℕ). get_or o (8 * b + j) 0) (sym (get_or-take n xs i 0 less));
+  }
+
+pub restores_slots : (s s' w xs : List ℕ) (n : ℕ) → n ≤ length xs → Restores s s' w (take n xs) (length (take n xs)) → Restores s s' w xs n
+restores_slots s s' w xs n few r =
+    let all : take (length (take n xs)) (take n xs) ≡ take n xs = take-length (take n xs) in
+    record {
+      same_length = r.same_length;
+      back = λ o g k here. r.back o (slots_saved o w xs n few g) k (rw all here);
+      others = λ k none. r.others k (rw all none);
+    }

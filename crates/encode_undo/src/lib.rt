@@ -20,51 +20,39 @@ fn copy(from: &[u32], a: usize, to: &mut [u32], b: usize, n: usize)
     requires { (a + n ≤ length from.now) × (b + n ≤ length to.old) }
     ensures { to.new ≡ copied from.now a to.old b n }
 {
-    let mut i: usize = 0;
-    while i < n {
-        records_words::put(to, b + i, records_words::word(from, a + i));
-        i += 1;
-    }
+    to[b..b + n].copy_from_slice(&from[a..a + n]);
 }
 
 // The words of each bucket's record to the work words, in order. A copy a bucket, at most 20.
-fn save_buckets(store: &[u32], work: &mut [u32], buckets: [u32; rules::MOST_BUCKETS], used: usize)
-    requires { (used ≤ 20) × (2208 ≤ length work.old) × All (λ b. 8 * b + 8 ≤ length store.now) (take used buckets) }
-    ensures { Saves store.now work.old work.new buckets used }
+fn save_buckets(store: &[u32], work: &mut [u32], buckets: &[u32])
+    requires { (length buckets.now ≤ 20) × (2208 ≤ length work.old) × All (λ b. 8 * b + 8 ≤ length store.now) buckets.now }
+    ensures { Saves store.now work.old work.new buckets.now (length buckets.now) }
 {
-    let mut i: usize = 0;
-    while i < used {
+    for (i, bucket) in buckets.iter().enumerate() {
         copy(
             store,
-            records::WORDS * (buckets[i] as usize),
+            records::WORDS * (*bucket as usize),
             work,
             BUCKETS + records::WORDS * i,
             records::WORDS,
         );
-        i += 1;
     }
 }
 
 // The words of the buckets as they were saved. A copy a bucket, at most 20.
-fn restore_buckets(
-    store: &mut [u32],
-    work: &[u32],
-    buckets: [u32; rules::MOST_BUCKETS],
-    used: usize,
-)
-    requires { (used ≤ 20) × (2208 ≤ length work.now) × All (λ b. 8 * b + 8 ≤ length store.old) (take used buckets) }
-    ensures { Restores store.old store.new work.now buckets used }
+// A loop of its own beside that of save_buckets: each is one copy, and one loop told which way to go would be longer than both.
+fn restore_buckets(store: &mut [u32], work: &[u32], buckets: &[u32])
+    requires { (length buckets.now ≤ 20) × (2208 ≤ length work.now) × All (λ b. 8 * b + 8 ≤ length store.old) buckets.now }
+    ensures { Restores store.old store.new work.now buckets.now (length buckets.now) }
 {
-    let mut k: usize = 0;
-    while k < used {
+    for (k, bucket) in buckets.iter().enumerate() {
         copy(
             work,
             BUCKETS + records::WORDS * k,
             store,
-            records::WORDS * (buckets[k] as usize),
+            records::WORDS * (*bucket as usize),
             records::WORDS,
         );
-        k += 1;
     }
 }
 
@@ -80,8 +68,7 @@ pub fn set_aside(s: State, store: &[u32], work: &mut [u32], n: usize)
         WAITING,
         records::WORDS * (s.records - n),
     );
-    let buckets = s.buckets;
-    save_buckets(store, work, buckets, s.buckets_used as usize);
+    save_buckets(store, work, &s.buckets[..s.buckets_used as usize]);
 }
 
 // Those words copied back to the store. Linear in the words copied.
@@ -89,8 +76,7 @@ pub fn put_back(s: State, store: &mut [u32], work: &[u32], n: usize)
     requires { Roomy s store.old work.now n }
     ensures { ((o : List ℕ) → Aside s o work.now n → Kept s o store.old n → take (8 * s.records) store.new ≡ take (8 * s.records) o) × (length store.new ≡ length store.old) }
 {
-    let buckets = s.buckets;
-    restore_buckets(store, work, buckets, s.buckets_used as usize);
+    restore_buckets(store, work, &s.buckets[..s.buckets_used as usize]);
     copy(
         work,
         WAITING,

@@ -6,23 +6,24 @@ use mathlib.Core.List.{List, [], ◌∷◌}
 use Prim.Native.Nat.{ℕ, zero, suc, ◌+◌, ◌-◌, ◌/◌, ◌%◌, ◌^◌, ◌≤◌, ◌<◌}
 use native.Mathlib.Omega.{arith}
 use lib.Dec.{leb, eqb}
-use lib.ListN.{length, take}
+use lib.ListN.{length}
 use lib.IntN.{ℤ, pos, neg_ℤ}
 use borrow.Author.Tests.{le-leb, lt-leb, eq-eqb, ne_eqb}
+use Rattle.std.specs.Prelude.{Result, Ok, Err}
+use Rattle.rules.specs.declared.Refusal.{Refusal}
+use Rattle.rules.specs.declared.Refusal.TheVariants.{NotEncoded}
 use Rattle.rules.specs.Records.{Kind, leaf, Node, node_at, entries, literal_word, word_literal}
 use Rattle.rules.specs.Totalizer.{number_of, literal_of}
 use Rattle.rules.specs.Build.{Build, output_weight, root, root_node, largest, unbuilt}
 use Rattle.rules.specs.Enforce.{set_tares, output_answer, root_answer, built_answer, one_answer, enforce}
 use Rattle.laws.specs.Records.Words.{literal_word_literal}
-use Rattle.enforce_answer.specs.declared.Answered.{Answered}
 use Rattle.enforce_answer.specs.Ends.{Ended}
 use Rattle.enforce_answer.specs.Stored.{Stored}
 use Rattle.enforce_answer.proofs.Finish.{ended_empty, ended_refused}
 use Rattle.numbers.proofs.Bits.{power_whole}
-use Rattle.enforce_answer.proofs.Back.{used_length}
 
 -- an end of one answer is that of an equal one
-pub ended_as : {o p : Option (List ℤ)} (c d : List ℤ) (r : Answered) → o ≡ p → Ended o c d r → Ended p c d r
+pub ended_as : {o p : Option (List ℤ)} (c d : List ℤ) (r : Result ℕ Refusal) → o ≡ p → Ended o c d r → Ended p c d r
 ended_as c d r e h = subst (λ (z : Option (List ℤ)). Ended z c d r) e h
 
 -- the literal of a negated word
@@ -38,14 +39,14 @@ module _ (b : Build) (u m d : ℕ) (is : m ≡ largest b.queue) (at : b.set ≡ 
   divided : largest b.queue / b.set ≡ m / d
   divided = ap₂ ◌/◌ (sym is) at
 
-  pub one_empty : m / d ≤ u → Ended (some (one_answer b u)) c c (record { count = 0; refusal = 0 })
+  pub one_empty : m / d ≤ u → Ended (some (one_answer b u)) c c (Ok 0)
   unfolding one_answer
   one_empty h =
-      ended_as c c (record { count = 0; refusal = 0 })
+      ended_as c c (Ok 0)
       (ap (λ (t : Bool). some (cond t [] (neg_ℤ (literal_of (node_at b.arena.records 0).kind 0) ∷ [])))
       (sym (ap (λ (n : ℕ). leb n u) divided ∙ le-leb (m / d) u h))) (ended_empty c)
 
-  pub one_literal : (x : ℤ) (k : Kind) (n w q : ℕ) (e : List ℤ) (r : Answered) → u < m / d →
+  pub one_literal : (x : ℤ) (k : Kind) (n w q : ℕ) (e : List ℤ) (r : Result ℕ Refusal) → u < m / d →
       (node_at b.arena.records 0).kind ≡ leaf x → (node_at b.arena.records 0).kind ≡ k → w ≡ literal_word (literal_of k n) →
       q ≡ literal_word (neg_ℤ (word_literal w)) → Ended (some (word_literal q ∷ [])) c e r → Ended (some (one_answer b u)) c e r
   unfolding one_answer literal_of
@@ -78,9 +79,9 @@ module _ (b : Build) (u w top : ℕ) (weight : w ≡ output_weight b) (at : root
       (sym weight) at ∙
       ap₂ (λ (n j : ℕ). cond (leb n (u / w)) (some []) (output_answer b u (number_of b.arena.records top j))) (sym most) up
 
-  pub root_empty : m ≤ u / w → Ended (root_answer b u) c c (record { count = 0; refusal = 0 })
+  pub root_empty : m ≤ u / w → Ended (root_answer b u) c c (Ok 0)
   root_empty h =
-      ended_as c c (record { count = 0; refusal = 0 })
+      ended_as c c (Ok 0)
       (sym (root_is ∙ ap (λ (t : Bool). cond t (some []) (output_answer b u (number_of b.arena.records top (u / w + 1)))) (le-leb m (u / w) h)))
       (ended_empty c)
 
@@ -88,13 +89,13 @@ module _ (b : Build) (u w top : ℕ) (weight : w ≡ output_weight b) (at : root
   root_past h = root_is ∙ ap (λ (t : Bool). cond t (some []) (output_answer b u (number_of b.arena.records top (u / w + 1)))) (lt-leb m (u / w) h)
 
   module _ (o : ℕ) (found : o ≡ literal_word (pos (number_of b.arena.records top (u / w + 1)))) (h : u / w < m) where
-    pub root_undefined : o ≡ 0 → Ended (root_answer b u) c c (record { count = 0; refusal = 11 })
+    pub root_undefined : o ≡ 0 → Ended (root_answer b u) c c (Err NotEncoded)
     unfolding literal_word
     root_undefined e =
-        ended_as c c (record { count = 0; refusal = 11 })
+        ended_as c c (Err NotEncoded)
         (sym (root_past h ∙ output_none b u (number_of b.arena.records top (u / w + 1)) (omega arith))) (ended_refused c)
 
-    pub root_output : (q : ℕ) (ts : List ℕ) (d : List ℤ) (r : Answered) → (o ≡ 0 → ⊥) → q ≡ literal_word (neg_ℤ (word_literal o)) → b.tares ≡ ts →
+    pub root_output : (q : ℕ) (ts : List ℕ) (d : List ℤ) (r : Result ℕ Refusal) → (o ≡ 0 → ⊥) → q ≡ literal_word (neg_ℤ (word_literal o)) → b.tares ≡ ts →
         Ended (some (word_literal q ∷ set_tares ts (w - 1 - u % w))) c d r → Ended (root_answer b u) c d r
     root_output q ts d r e f g p =
         ended_as c d r
@@ -121,17 +122,16 @@ module _ (b : Build) (store : List ℕ) (records : ℕ) (h : Stored b store reco
   first_is = ap (λ (n : Node). n.kind) (h.node_is 0)
 
 -- the weight of outputs
-pub weight_is : (b : Build) (xs : List ℕ) (used w : ℕ) → w ≡ 2 ^ used % 2 ^ 64 → used ≤ 19 → length xs ≡ 19 → b.tares ≡ take used xs → w ≡ output_weight b
+pub weight_is : (b : Build) (ts : List ℕ) (w : ℕ) → w ≡ 2 ^ length ts % 2 ^ 64 → length ts ≤ 19 → b.tares ≡ ts → w ≡ output_weight b
 unfolding output_weight
-weight_is b xs used w e h l t =
-    power_whole used w (omega arith) e ∙ ap (λ (n : ℕ). 2 ^ n) (sym (ap length t ∙ used_length xs used h l))
+weight_is b ts w e h t = power_whole (length ts) w (omega arith) e ∙ ap (λ (n : ℕ). 2 ^ n) (sym (ap length t))
 
 -- by the build
 module _ (b : Build) (u : ℕ) (c : List ℤ) where
-  pub built_none : b.built ≡ 0 → Ended (built_answer b u) c c (record { count = 0; refusal = 11 })
+  pub built_none : b.built ≡ 0 → Ended (built_answer b u) c c (Err NotEncoded)
   unfolding built_answer unbuilt
   built_none e =
-      ended_as c c (record { count = 0; refusal = 11 })
+      ended_as c c (Err NotEncoded)
       (sym (ap (λ (t : Bool). cond t none (cond (leb b.set (largest b.queue)) none (root_answer b (u / (b.built / b.set))))) (eq-eqb b.built 0 e)))
       (ended_refused c)
 
@@ -141,12 +141,12 @@ module _ (b : Build) (u : ℕ) (c : List ℤ) where
     built_is =
         ap₂ (λ (t : Bool) (n : ℕ). cond t none (cond (leb b.set n) none (root_answer b (u / (b.built / b.set))))) (ne_eqb b.built 0 e) (sym is)
 
-    pub built_waits : b.set ≤ m → Ended (built_answer b u) c c (record { count = 0; refusal = 11 })
+    pub built_waits : b.set ≤ m → Ended (built_answer b u) c c (Err NotEncoded)
     built_waits h =
-        ended_as c c (record { count = 0; refusal = 11 })
+        ended_as c c (Err NotEncoded)
         (sym (built_is ∙ ap (λ (t : Bool). cond t none (root_answer b (u / (b.built / b.set)))) (le-leb b.set m h))) (ended_refused c)
 
-    pub built_root : (d : List ℤ) (r : Answered) → m < b.set → Ended (root_answer b (u / (b.built / b.set))) c d r → Ended (built_answer b u) c d r
+    pub built_root : (d : List ℤ) (r : Result ℕ Refusal) → m < b.set → Ended (root_answer b (u / (b.built / b.set))) c d r → Ended (built_answer b u) c d r
     built_root d r h p =
         ended_as c d r (sym (built_is ∙ ap (λ (t : Bool). cond t none (root_answer b (u / (b.built / b.set)))) (lt-leb b.set m h))) p
 
@@ -159,27 +159,27 @@ module _ (b : Build) (u : ℕ) (c : List ℤ) (t : Bool) (within : t ≡ (leb b.
   unfolding enforce rest
   enforce_is = ap (λ (z : Bool). cond z (some []) rest) (sym within)
 
-  pub enforce_within : t ≡ true → Ended (enforce b u) c c (record { count = 0; refusal = 0 })
-  enforce_within e = ended_as c c (record { count = 0; refusal = 0 }) (sym (enforce_is ∙ ap (λ (z : Bool). cond z (some []) rest) e)) (ended_empty c)
+  pub enforce_within : t ≡ true → Ended (enforce b u) c c (Ok 0)
+  enforce_within e = ended_as c c (Ok 0) (sym (enforce_is ∙ ap (λ (z : Bool). cond z (some []) rest) e)) (ended_empty c)
 
   module _ (e : t ≡ false) where
     enforce_rest : enforce b u ≡ rest
     enforce_rest = enforce_is ∙ ap (λ (z : Bool). cond z (some []) rest) e
 
-    pub enforce_none : b.inputs ≡ 0 → Ended (enforce b u) c c (record { count = 0; refusal = 0 })
+    pub enforce_none : b.inputs ≡ 0 → Ended (enforce b u) c c (Ok 0)
     unfolding rest
     enforce_none z =
-        ended_as c c (record { count = 0; refusal = 0 })
+        ended_as c c (Ok 0)
         (sym (enforce_rest ∙ ap (λ (x : Bool). cond x (some []) (cond (eqb b.inputs 1) (some (one_answer b u)) (built_answer b u))) (eq-eqb b.inputs 0 z)))
         (ended_empty c)
 
-    pub enforce_one : (d : List ℤ) (r : Answered) → b.inputs ≡ 1 → Ended (some (one_answer b u)) c d r → Ended (enforce b u) c d r
+    pub enforce_one : (d : List ℤ) (r : Result ℕ Refusal) → b.inputs ≡ 1 → Ended (some (one_answer b u)) c d r → Ended (enforce b u) c d r
     unfolding rest
     enforce_one d r z p =
         ended_as c d r
         (sym (enforce_rest ∙ ap₂ (λ (x y : Bool). cond x (some []) (cond y (some (one_answer b u)) (built_answer b u))) (ne_eqb b.inputs 0 (λ q. omega arith)) (eq-eqb b.inputs 1 z))) p
 
-    pub enforce_more : (d : List ℤ) (r : Answered) → (b.inputs ≡ 0 → ⊥) → (b.inputs ≡ 1 → ⊥) → Ended (built_answer b u) c d r → Ended (enforce b u) c d r
+    pub enforce_more : (d : List ℤ) (r : Result ℕ Refusal) → (b.inputs ≡ 0 → ⊥) → (b.inputs ≡ 1 → ⊥) → Ended (built_answer b u) c d r → Ended (enforce b u) c d r
     unfolding rest
     enforce_more d r y z p =
         ended_as c d r

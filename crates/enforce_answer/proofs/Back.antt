@@ -2,8 +2,9 @@
 use mathlib.Core.Path.{◌≡◌, refl, sym, ap, ap₂, ◌∙◌, subst}
 use mathlib.Core.Bool.{Bool, true, false, cond}
 use mathlib.Core.List.{List, [], ◌∷◌, ◌++◌, append-nil, append_assoc}
-use Prim.Native.Nat.{ℕ, suc, ◌+◌, ◌*◌, ◌-◌, ◌/◌, ◌%◌, ◌≤◌, ◌<◌}
+use Prim.Native.Nat.{ℕ, suc, ◌+◌, ◌*◌, ◌-◌, ◌/◌, ◌%◌, ◌^◌, ◌≤◌, ◌<◌}
 use native.Mathlib.Omega.{arith}
+use Rattle.std.proofs.Math.Nat.{div-div-eq-div-mul, pow-suc}
 use lib.Dec.{eqb}
 use lib.ListN.{length, get_or, set, take, drop, length-append, length-set, take-append-drop, drop_of_length-le}
 use lib.Seq.{drop-cons, set_split, drop_at, length-take-le, take-set-le}
@@ -41,13 +42,18 @@ module _ (c : List ℤ) (at t x : ℕ) where
 
 -- the walk over the tares
 module _ (b : Buf) (ts : List ℕ) (i x : ℕ) (whole : Buf) where
-  pub back_on : (t : ℕ) (d : Buf) → i < length ts → t ≡ get_or ts i 0 → d ≡ tare_step b t x → tares_back b (drop i ts) x ≡ whole →
-      tares_back d (drop (i + 1) ts) (x / 2) ≡ whole
-  unfolding tares_back
-  back_on t d h e f p =
+  halved : x / 2 ^ i / 2 ≡ x / 2 ^ (i + 1)
+  halved =
       let up : suc i ≡ i + 1 = omega arith in
-      ap (λ (z : Buf). tares_back z (drop (i + 1) ts) (x / 2)) (f ∙ ap (λ (n : ℕ). tare_step b n x) e) ∙
-      (sym (ap (λ (l : List ℕ). tares_back b l x) (drop-cons ts i 0 h ∙ ap (λ (j : ℕ). get_or ts i 0 ∷ drop j ts) up)) ∙ p)
+      div-div-eq-div-mul x (2 ^ i) 2 ∙ (ap (λ (n : ℕ). x / n) (sym (pow-suc 2 i)) ∙ ap (λ (n : ℕ). x / 2 ^ n) up)
+
+  pub back_on : (d : Buf) → i < length ts → d ≡ tare_step b (get_or ts i 0) (x / 2 ^ i) → tares_back b (drop i ts) (x / 2 ^ i) ≡ whole →
+      tares_back d (drop (i + 1) ts) (x / 2 ^ (i + 1)) ≡ whole
+  unfolding tares_back
+  back_on d h f p =
+      let up : suc i ≡ i + 1 = omega arith in
+      ap₂ (λ (z : Buf) (n : ℕ). tares_back z (drop (i + 1) ts) n) f (sym halved) ∙
+      (sym (ap (λ (l : List ℕ). tares_back b l (x / 2 ^ i)) (drop-cons ts i 0 h ∙ ap (λ (j : ℕ). get_or ts i 0 ∷ drop j ts) up)) ∙ p)
 
   pub back_end : length ts ≤ i → tares_back b (drop i ts) x ≡ whole → b ≡ whole
   unfolding tares_back
@@ -98,14 +104,3 @@ back_laid ts from at x j c d e h p = let q : buf d j ≡ buf (take from c ++ (se
 -- a tare among those that fit a word
 pub tare_small : (ts : List ℕ) (i t : ℕ) → t ≡ get_or ts i 0 → All (λ t. t < 2147483648) ts → t < 2147483648
 tare_small ts i t e a = subst (λ (n : ℕ). n < 2147483648) (sym e) (All_get_or (λ t. t < 2147483648) ts i 0 a (omega arith))
-
--- the used slots of an array of 19
-module _ (xs : List ℕ) (used : ℕ) (few : used ≤ 19) (slots : length xs ≡ 19) where
-  pub used_length : length (take used xs) ≡ used
-  used_length = length-take-le used xs (omega arith)
-
-  pub used_in : (i : ℕ) → i < used → i < length (take used xs)
-  used_in i h = omega (arith, used_length)
-
-  pub past_used : (i : ℕ) → used ≤ i → length (take used xs) ≤ i
-  past_used i h = omega (arith, used_length)

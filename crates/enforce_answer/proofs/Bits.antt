@@ -2,7 +2,7 @@
 use mathlib.Core.Path.{◌≡◌, refl, ap, ◌∙◌}
 use mathlib.Core.Bool.{Bool, true, false, cond}
 use mathlib.Core.List.{List, [], ◌∷◌}
-use Prim.Native.Nat.{ℕ, zero, suc, ◌+◌, ◌-◌, ◌/◌, ◌%◌, ◌<◌}
+use Prim.Native.Nat.{ℕ, suc, ◌+◌, ◌/◌, ◌%◌}
 use native.Mathlib.Omega.{arith}
 use lib.Dec.{eqb}
 use lib.ListN.{length, length-append}
@@ -23,16 +23,10 @@ tares_bits (t ∷ ts) x =
     go true e m n q = let o : x % 2 ≡ 1 = eqb-true (x % 2) 1 e in omega arith
     go false e m n q = let o : x % 2 ≡ 1 → ⊥ = eqb-false (x % 2) 1 e in omega arith
 
-bits_more : (n x : ℕ) → 0 < n → bits n x ≡ x % 2 + bits (n - 1) (x / 2)
-unfolding bits
-bits_more zero x h = absurd (omega arith)
-bits_more (suc n) x h =
-    let e : n ≡ suc n - 1 = omega arith in
-    ap (λ (k : ℕ). x % 2 + bits k (x / 2)) e
-
 -- the bits counted and those left
-pub bits_on : (n k x all : ℕ) → 0 < k → n + bits k x ≡ all → n + x % 2 + bits (k - 1) (x / 2) ≡ all
-bits_on n k x all h e = omega (arith, bits_more k x h)
+pub bits_on : (n k j x all : ℕ) → k ≡ suc j → n + bits k x ≡ all → n + x % 2 + bits j (x / 2) ≡ all
+unfolding bits
+bits_on n k j x all h e = omega (arith, ap (λ (m : ℕ). bits m x) h)
 
 pub bits_end : (n k x y used : ℕ) → k ≡ 0 → n + bits k x ≡ bits used y → (ts : List ℕ) → length ts ≡ used → n ≡ length (set_tares ts y)
 unfolding bits

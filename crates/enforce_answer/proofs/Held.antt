@@ -10,6 +10,9 @@ use lib.Dec.{leb, eqb}
 use lib.ListN.{get_or, take}
 use lib.Pow.{suc_ones}
 use lib.IntN.{ℤ}
+use Rattle.std.specs.Prelude.{Result, Ok, Err}
+use Rattle.rules.specs.declared.Refusal.{Refusal}
+use Rattle.rules.specs.declared.Refusal.TheVariants.{NotEncoded}
 use Rattle.rules.specs.declared.State.{State}
 use Rattle.rules.specs.Digits.{top_bit}
 use Rattle.rules.specs.Records.{leaf, Output, Record, node_at, entries, outputs}
@@ -18,7 +21,6 @@ use Rattle.rules.specs.Enforce.{root_answer, built_answer, one_answer, enforce}
 use Rattle.laws.specs.Lists.Facts.{All, All_map, All_second}
 use Rattle.records.specs.Carries.{Stores}
 use Rattle.records_waiting.specs.Read.{Readable}
-use Rattle.enforce_answer.specs.declared.Answered.{Answered}
 use Rattle.enforce_answer.specs.Ends.{Ended}
 use Rattle.enforce_answer.specs.Stored.{Stored}
 use Rattle.enforce_answer.proofs.First.{node_kept, number_kept}
@@ -57,32 +59,32 @@ module _ (s : State) (store : List ℕ) (h : Readable s store) where
       (le-div_iff_mul-le {k = s.set} {x = 1} {y = s.built} o).1 (omega arith)
 
   module _ (u : ℕ) (c : List ℤ) where
-    pub ask_unbuilt : s.built ≡ 0 → Ended (built_answer (build_of s store) u) c c (record { count = 0; refusal = 11 })
+    pub ask_unbuilt : s.built ≡ 0 → Ended (built_answer (build_of s store) u) c c (Err NotEncoded)
     unfolding build_of build_over
     ask_unbuilt e = built_none (build_of s store) u c e
 
     module _ (e : s.built ≡ 0 → ⊥) (m : ℕ) (is : (rs : List Record) → Stores store s.records rs → m ≡ largest (entries rs)) where
-      pub ask_waits : s.set ≤ m → Ended (built_answer (build_of s store) u) c c (record { count = 0; refusal = 11 })
+      pub ask_waits : s.set ≤ m → Ended (built_answer (build_of s store) u) c c (Err NotEncoded)
       unfolding build_of build_over
       ask_waits l = built_waits (build_of s store) u c e m (is (held s store) h.stores) l
 
-      pub ask_root : (top : ℕ) (d : List ℤ) (r : Answered) → m < s.set → top ≡ get_or (take s.buckets_used s.buckets) 0 0 →
+      pub ask_root : (top : ℕ) (d : List ℤ) (r : Result ℕ Refusal) → m < s.set → top ≡ get_or (take s.buckets_used s.buckets) 0 0 →
           ((b : Build) → Stored b store s.records → b.tares ≡ take s.tares_used s.tares → root b ≡ top →
           Ended (root_answer b (u / (s.built / s.set))) c d r) → Ended (built_answer (build_of s store) u) c d r
       unfolding build_of build_over root tares_of buckets_of
       ask_root top d r l t p = built_root (build_of s store) u c e m (is (held s store) h.stores) d r l (p (build_of s store) has refl (sym t))
 
     module _ (t : Bool) (within : t ≡ (leb s.sum u && eqb s.set 1)) where
-      pub ask_within : t ≡ true → Ended (enforce (build_of s store) u) c c (record { count = 0; refusal = 0 })
+      pub ask_within : t ≡ true → Ended (enforce (build_of s store) u) c c (Ok 0)
       unfolding build_of build_over
       ask_within e = enforce_within (build_of s store) u c t within e
 
       module _ (e : t ≡ false) where
-        pub ask_none : s.inputs ≡ 0 → Ended (enforce (build_of s store) u) c c (record { count = 0; refusal = 0 })
+        pub ask_none : s.inputs ≡ 0 → Ended (enforce (build_of s store) u) c c (Ok 0)
         unfolding build_of build_over
         ask_none z = enforce_none (build_of s store) u c t within e z
 
-        pub ask_one : (d : List ℤ) (r : Answered) → s.inputs ≡ 1 →
+        pub ask_one : (d : List ℤ) (r : Result ℕ Refusal) → s.inputs ≡ 1 →
             ((b : Build) (x : ℤ) → Stored b store s.records → b.set ≡ s.set → (node_at b.arena.records 0).kind ≡ leaf x → Ended (some (one_answer b u)) c d r) →
             Ended (enforce (build_of s store) u) c d r
         unfolding build_of build_over
@@ -90,7 +92,7 @@ module _ (s : State) (store : List ℕ) (h : Readable s store) where
             let (x, k) = h.formed.inputs_first 0 (omega arith) in
             enforce_one (build_of s store) u c t within e d r z (p (build_of s store) x has refl k)
 
-        pub ask_more : (d : List ℤ) (r : Answered) → (s.inputs ≡ 0 → ⊥) → (s.inputs ≡ 1 → ⊥) → Ended (built_answer (build_of s store) u) c d r →
+        pub ask_more : (d : List ℤ) (r : Result ℕ Refusal) → (s.inputs ≡ 0 → ⊥) → (s.inputs ≡ 1 → ⊥) → Ended (built_answer (build_of s store) u) c d r →
             Ended (enforce (build_of s store) u) c d r
         unfolding build_of build_over
         ask_more d r y z p = enforce_more (build_of s store) u c t within e d r y z p

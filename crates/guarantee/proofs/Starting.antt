@@ -1,5 +1,5 @@
 -- Ask 7: the starting divisor is what next_precision answers after start, and refusal 10 comes only after an accepted set.
-use Rattle.std.specs.Prelude.{◌≡◌, ◌≢◌, ◌⊎◌, Bool, not, cond, ◌&&◌, eqb, leb, ltb, length, ℤ}
+use Rattle.std.specs.Prelude.{◌≡◌, ◌≢◌, ◌⊎◌, Bool, not, cond, ◌&&◌, eqb, leb, ltb, length, ℤ, Result, Ok, Err}
 use Rattle.std.proofs.Math.Path.{refl, sym, ap, subst}
 use Rattle.std.proofs.Common.{◌∙◌, inl, inr, arith}
 use Rattle.std.proofs.Math.Bool.{true, false}
@@ -8,8 +8,8 @@ use Prim.Native.Nat.{ℕ, zero, suc, ◌^◌, ◌≤◌, max}
 use Rattle.std.proofs.Math.Pow.{pow_pos}
 use borrow.Author.Tests.{eqb-true, ltb-true, ltb-false}
 use Rattle.rules.specs.declared.State.{State}
-use Rattle.rules.specs.declared.Precision.{Precision}
-use Rattle.rules.specs.declared.Precision.TheVariants.{Divisor, Refused as Refused-precision}
+use Rattle.rules.specs.declared.Refusal.{Refusal}
+use Rattle.rules.specs.declared.Refusal.TheVariants.{NotWellFormed}
 use Rattle.rules.specs.Lists.{rising}
 use Rattle.rules.specs.Digits.{top_bit}
 use Rattle.rules.specs.Refusals.{first_true}
@@ -93,14 +93,15 @@ module _ (lits : List ℤ) (weights : List ℕ) (first : ℕ) (store : List ℕ)
   -- the starting divisor is what next_precision answers after start
   pub starting_next :
       let m : Memory = started lits weights first store clauses in
-      next_precision m.state m.store m.clauses ≡ Divisor m.state.set
+      next_precision m.state m.store m.clauses ≡ Ok m.state.set
   unfolding started next_precision new new_build starting_divisor state_of recounted bare with_arena restructured
   starting_next =
+      let at : ℕ → Result ℕ Refusal = λ d. Ok d in
       let m : Memory = started lits weights first store clauses in
       let queue : largest (build_of m.state m.store).queue ≡ heaviest ws = ap (λ (b : Build). largest b.queue) (read_is xs ws new begun m shown) ∙ largest_queued 0 ws in
       let set : m.state.set ≡ 2 ^ top_bit (heaviest ws) = ap (λ (s : State). s.set) shown.state_is in
-      ap (λ (t : Bool). elim t as (λ x. Precision) [ true ↦ Divisor (2 ^ top_bit (largest (build_of m.state m.store).queue)) | false ↦ Refused-precision 12 ]) (accepted_start lits weights first store clauses accepted) ∙
-      (ap (λ (k : ℕ). Divisor (2 ^ top_bit k)) queue ∙ sym (ap Divisor set))
+      ap (λ (t : Bool). elim t as (λ x. Result ℕ Refusal) [ true ↦ Ok (2 ^ top_bit (largest (build_of m.state m.store).queue)) | false ↦ Err NotWellFormed ]) (accepted_start lits weights first store clauses accepted) ∙
+      (ap (λ (k : ℕ). at (2 ^ top_bit k)) queue ∙ sym (ap at set))
 
   -- a build that was reached with no set accepted: at the starting divisor, and until it is built all inputs wait
   record Kept (m : Memory) : Type 0 where

@@ -26,11 +26,25 @@
 // A read or a write that fails ends it with its error, and no other error comes; what was lent is then as the calls so far left it.
 #![tactic(auto)]
 
-ghost use Rattle.std.specs.Prelude.{◌≡◌, ◌<◌, ◌≤◌, length, IfOk};
+ghost use Rattle.std.specs.Prelude.{◌<◌, ◌≤◌, ◌^◌, length, IfOk};
 
-use rules::{Coarse, Maximum, Precision, State};
+use records::Store;
+use rules::State;
 use std::io;
 use std::io::{Read, Write};
+
+// Read for the lowest number of 32 bits, which no literal's word stands for.
+const LEAST: u64 = 1 << 31;
+
+// The buffers that a history is played over, or the front of each that a call is lent.
+#[derive(Drop)]
+pub struct Lent<'a> {
+    pub lits: &'a mut [i32],
+    pub weights: &'a mut [u64],
+    pub store: &'a mut [u32],
+    pub clauses: &'a mut [i32],
+    pub work: &'a mut [u32],
+}
 
 // What a history has come to: the state, how many literals and weights were named, how many words are lent.
 #[derive(Clone, Copy)]
@@ -43,418 +57,263 @@ struct World {
     work: usize,
 }
 
-// Start, from the inputs named so far. Grows as start does.
-fn start<W: Write>(
-    out: &mut W,
-    line: &[u8],
-    lits: &[i32],
-    weights: &[u64],
-    store: &mut [u32],
-    clauses: &mut [i32],
-    work: &[u32],
-) -> io::Result<State> {
-    let r = watchdog_start::start(lits, weights, history_text::short(line, 1), store, clauses);
-    let answer = r.answer;
-    let t = r.state;
-    history_print::number(out, history_print::refusal(answer))?;
+// A state and all that is lent, but for a line that begins with a capital. Linear in what is lent.
+fn built<W: Write>(out: &mut W, line: &[u8], s: State, lent: &Lent) -> io::Result<()> {
     if history_text::brief(line) {
-        return Ok(t);
+        return Ok(());
     }
-    history_print::state(out, t)?;
-    history_print::lent(out, t, store, clauses, work)?;
-    Ok(t)
+    history_print::state(out, s)?;
+    history_print::lent(out, s, lent.store, lent.clauses, lent.work)
+}
+
+// Start, from the inputs named so far. Grows as start does.
+fn start<W: Write>(out: &mut W, line: &[u8], lent: &mut Lent) -> io::Result<State> {
+    let first = history_text::short(line, 1);
+    // Both taken before: two fields lent to be read in one call get no proof.
+    let lits = &mut *lent.lits;
+    let weights = &mut *lent.weights;
+    let r = watchdog_start::start(lits, weights, first, lent.store, lent.clauses);
+    history_print::refusal(out, r.answer)?;
+    built(out, line, r.state, lent)?;
+    Ok(r.state)
 }
 
 // Set_precision. Grows as that does.
-fn set<W: Write>(
-    out: &mut W,
-    line: &[u8],
-    s: State,
-    store: &[u32],
-    clauses: &[i32],
-    work: &[u32],
-) -> io::Result<State> {
-    let r = watchdog_precision::set_precision(s, store, clauses, history_text::number(line, 1));
-    let answer = r.answer;
-    let t = r.state;
-    history_print::number(out, history_print::refusal(answer))?;
-    if history_text::brief(line) {
-        return Ok(t);
-    }
-    history_print::state(out, t)?;
-    history_print::lent(out, t, store, clauses, work)?;
-    Ok(t)
+fn set<W: Write>(out: &mut W, line: &[u8], s: State, lent: &Lent) -> io::Result<State> {
+    let divisor = history_text::number(line, 1);
+    let r = watchdog_precision::set_precision(s, lent.store, lent.clauses, divisor);
+    history_print::refusal(out, r.answer)?;
+    built(out, line, r.state, lent)?;
+    Ok(r.state)
 }
 
 // Encode_ub_change. Grows as that does.
-fn encode<W: Write>(
-    out: &mut W,
-    line: &[u8],
-    s: State,
-    store: &mut [u32],
-    clauses: &mut [i32],
-    work: &mut [u32],
-) -> io::Result<State> {
-    let r = watchdog_encode::encode_ub_change(
-        s,
-        store,
-        clauses,
-        work,
-        history_text::number(line, 1),
-        history_text::number(line, 2),
-    );
-    let answer = r.answer;
-    let t = r.state;
-    history_print::number(out, history_print::refusal(answer))?;
-    if history_text::brief(line) {
-        return Ok(t);
+fn encode<W: Write>(out: &mut W, line: &[u8], s: State, lent: &mut Lent) -> io::Result<State> {
+    let lo = history_text::number(line, 1);
+    let end = history_text::number(line, 2);
+    let r = watchdog_encode::encode_ub_change(s, lent.store, lent.clauses, lent.work, lo, end);
+    history_print::refusal(out, r.answer)?;
+    if !history_text::brief(line) {
+        totals(out, r.clauses, r.variables)?;
     }
-    history_print::number(out, r.clauses as u64)?;
-    history_print::number(out, r.variables as u64)?;
-    history_print::state(out, t)?;
-    history_print::lent(out, t, store, clauses, work)?;
-    Ok(t)
+    built(out, line, r.state, lent)?;
+    Ok(r.state)
 }
 
-// Enforce over a scratch: refusal number, how many literals, their words. Grows as enforce does.
-fn enforced<W: Write>(
-    out: &mut W,
-    line: &[u8],
-    s: State,
-    store: &[u32],
-    clauses: &[i32],
-    scratch: &mut [i32],
-) -> io::Result<()> {
-    let mut refused: u32 = 7;
-    let u = history_text::number(line, 1);
-    let part = watchdog_enforce::enforce_ub(s, store, clauses, scratch, u, &mut refused);
-    history_print::number(out, refused as u64)?;
-    history_print::number(out, part.len() as u64)?;
-    history_print::literals(out, part)
-}
-
-// Enforce over the front of a scratch, then the digest of all of it. Grows as enforce does.
-fn enforced_in_front<W: Write>(
-    out: &mut W,
-    line: &[u8],
-    s: State,
-    store: &[u32],
-    clauses: &[i32],
-    scratch: &mut [i32],
-) -> io::Result<()> {
+// Enforce over as many words as the line says of a scratch of 20 that held 7: refusal number, how many literals, their words, then
+// the digest of the scratch. Grows as enforce does.
+fn enforce<W: Write>(out: &mut W, line: &[u8], s: State, lent: &Lent) -> io::Result<()> {
+    let mut scratch = [7i32; 20];
     let n = history_text::long(line, 2);
     if scratch.len() < n {
         return Ok(());
     }
-    enforced(out, line, s, store, clauses, &mut scratch[..n])?;
+    let mut refused = 7;
+    let part = watchdog_enforce::enforce_ub(
+        s,
+        lent.store,
+        lent.clauses,
+        &mut scratch[..n],
+        history_text::number(line, 1),
+        &mut refused,
+    );
+    history_print::number(out, u64::from(refused))?;
+    history_print::number(out, part.len() as u64)?;
+    history_print::literals(out, part)?;
     history_print::bar(out)?;
-    history_print::digest_literals(out, scratch, 0, scratch.len())
-}
-
-// Enforce over as many words as the line says of a scratch of 20 that held 7. Grows as enforce does.
-fn enforce<W: Write>(
-    out: &mut W,
-    line: &[u8],
-    s: State,
-    store: &[u32],
-    clauses: &[i32],
-) -> io::Result<()> {
-    let mut scratch = [7i32; 20];
-    enforced_in_front(out, line, s, store, clauses, &mut scratch)
+    history_print::digest_literals(out, &scratch)
 }
 
 // Enforce: refusal number, roles, assignments admitted. Grows as enforce does, and with assignments times clauses.
-fn meaning<W: Write>(
-    out: &mut W,
-    line: &[u8],
-    s: State,
-    lits: &[i32],
-    store: &[u32],
-    clauses: &[i32],
-) -> io::Result<()> {
+fn meaning<W: Write>(out: &mut W, line: &[u8], s: State, lent: &Lent) -> io::Result<()> {
     let mut scratch = [0i32; 20];
-    let mut refused: u32 = 7;
+    let mut refused = 7;
     let u = history_text::number(line, 1);
-    let part = watchdog_enforce::enforce_ub(s, store, clauses, &mut scratch, u, &mut refused);
-    history_print::number(out, refused as u64)?;
+    let part = watchdog_enforce::enforce_ub(
+        s,
+        lent.store,
+        lent.clauses,
+        &mut scratch,
+        u,
+        &mut refused,
+    );
+    history_print::number(out, u64::from(refused))?;
     if refused != 0 {
         return Ok(());
     }
+    let store = Store {
+        words: lent.store,
+        records: s.records,
+    };
     history_loads::roles(out, s, store, part)?;
     history_print::bar(out)?;
-    history_loads::loads(out, s, lits, clauses, part)
+    history_loads::loads(out, s, lent.lits, lent.clauses, part)
 }
 
 // Coarse_ub. Grows as that does.
-fn coarse<W: Write>(
-    out: &mut W,
-    line: &[u8],
-    s: State,
-    store: &[u32],
-    clauses: &[i32],
-) -> io::Result<()> {
-    let p = watchdog_precision::coarse_ub(s, store, clauses, history_text::number(line, 1));
-    match p {
-        Coarse::Bound(b) => history_print::number(out, b),
-        Coarse::Refused(n) => history_print::refused(out, n),
-    }
+fn coarse<W: Write>(out: &mut W, line: &[u8], s: State, lent: &Lent) -> io::Result<()> {
+    let u = history_text::number(line, 1);
+    history_print::answer(
+        out,
+        watchdog_precision::coarse_ub(s, lent.store, lent.clauses, u),
+    )
 }
 
 // Next_precision. Grows as that does.
-fn next<W: Write>(out: &mut W, s: State, store: &[u32], clauses: &[i32]) -> io::Result<()> {
-    let p = watchdog_precision::next_precision(s, store, clauses);
-    match p {
-        Precision::Divisor(d) => history_print::number(out, d),
-        Precision::Refused(n) => history_print::refused(out, n),
-    }
+fn next<W: Write>(out: &mut W, s: State, lent: &Lent) -> io::Result<()> {
+    history_print::answer(
+        out,
+        watchdog_precision::next_precision(s, lent.store, lent.clauses),
+    )
 }
 
 // Is_max_precision, as 1 or 0. Grows as that does.
-fn maximum<W: Write>(out: &mut W, s: State, store: &[u32], clauses: &[i32]) -> io::Result<()> {
-    let p = watchdog_precision::is_max_precision(s, store, clauses);
-    match p {
-        Maximum::Yes => history_print::number(out, 1),
-        Maximum::No => history_print::number(out, 0),
-        Maximum::Refused(n) => history_print::refused(out, n),
-    }
+fn maximum<W: Write>(out: &mut W, s: State, lent: &Lent) -> io::Result<()> {
+    let most = watchdog_precision::is_max_precision(s, lent.store, lent.clauses);
+    history_print::answer(out, most.map(u64::from))
 }
 
-// Both totals. Constant time.
-fn totals<W: Write>(out: &mut W, s: State) -> io::Result<()> {
-    history_print::number(out, s.clauses as u64)?;
-    history_print::number(out, s.variables as u64)
+// The totals of clauses and of variables. Constant time.
+fn totals<W: Write>(out: &mut W, clauses: usize, variables: u32) -> io::Result<()> {
+    history_print::number(out, clauses as u64)?;
+    history_print::number(out, u64::from(variables))
 }
 
 // All lent words of store and clause buffer. Linear in them.
-fn show<W: Write>(out: &mut W, store: &[u32], clauses: &[i32]) -> io::Result<()> {
-    history_print::words(out, store, 0, store.len())?;
+fn show<W: Write>(out: &mut W, lent: &Lent) -> io::Result<()> {
+    history_print::words(out, lent.store)?;
     history_print::bar(out)?;
-    history_print::literals(out, clauses)
+    history_print::literals(out, lent.clauses)
 }
 
 // A call that only reads; r0 for a letter that is none. Grows as the call does.
-fn read<W: Write>(
-    out: &mut W,
-    line: &[u8],
-    s: State,
-    store: &[u32],
-    clauses: &[i32],
-) -> io::Result<()> {
-    let letter = history_text::byte(line, 0);
-    match letter {
-        b'u' => enforce(out, line, s, store, clauses),
-        b'c' => coarse(out, line, s, store, clauses),
-        b'n' => next(out, s, store, clauses),
-        b'm' => maximum(out, s, store, clauses),
-        b't' => totals(out, s),
-        b'w' => show(out, store, clauses),
+fn read<W: Write>(out: &mut W, line: &[u8], s: State, lent: &Lent) -> io::Result<()> {
+    match history_text::byte(line, 0) {
+        b'U' => meaning(out, line, s, lent),
+        b'u' => enforce(out, line, s, lent),
+        b'c' => coarse(out, line, s, lent),
+        b'n' => next(out, s, lent),
+        b'm' => maximum(out, s, lent),
+        b't' => totals(out, s.clauses, s.variables),
+        b'w' => show(out, lent),
         _ => history_print::refused(out, 0),
     }
 }
 
 // A call, its line printed back and its answer behind it; the state afterwards. Grows as the call does.
-fn call<W: Write>(
-    out: &mut W,
-    line: &[u8],
-    s: State,
-    lits: &[i32],
-    weights: &[u64],
-    store: &mut [u32],
-    clauses: &mut [i32],
-    work: &mut [u32],
-) -> io::Result<State> {
-    let letter = history_text::letter(line);
+fn call<W: Write>(out: &mut W, line: &[u8], s: State, lent: &mut Lent) -> io::Result<State> {
     out.write_all(line)?;
     out.write_all(b":")?;
-    if letter == b's' {
-        return start(out, line, lits, weights, store, clauses, work);
-    }
-    if letter == b'p' {
-        return set(out, line, s, store, clauses, work);
-    }
-    if letter == b'e' {
-        return encode(out, line, s, store, clauses, work);
-    }
-    if history_text::byte(line, 0) == b'U' {
-        meaning(out, line, s, lits, store, clauses)?;
-        return Ok(s);
-    }
-    read(out, line, s, store, clauses)?;
-    Ok(s)
-}
-
-// One word in every place from one on. Linear in them.
-fn fill_words(s: &mut [u32], from: usize, w: u32) {
-    let mut i = from;
-    while i < s.len() {
-        records_words::put(s, i, w);
-        i += 1;
-    }
-}
-
-// One literal, given by its word, in every place from one on. Linear in them.
-fn fill_literals(c: &mut [i32], from: usize, w: u32) {
-    let mut i = from;
-    while i < c.len() {
-        numbers::put_signed(c, i, w);
-        i += 1;
-    }
-}
-
-// A number, or its variable in the clause buffer, in all that is lent and not used. Linear in it.
-fn fill(line: &[u8], s: State, store: &mut [u32], clauses: &mut [i32], work: &mut [u32]) {
-    let w = history_text::short(line, 1);
-    let records = history_print::used_words(store, s.records);
-    let words = history_print::used_literals(clauses, s.words);
-    fill_words(store, records, w);
-    fill_literals(clauses, words, history_text::literal(line));
-    fill_words(work, 0, w);
-}
-
-// A line over what is lent: words altered, or a call; the state afterwards. Grows as the call does.
-fn turn<W: Write>(
-    out: &mut W,
-    line: &[u8],
-    s: State,
-    lits: &[i32],
-    weights: &[u64],
-    store: &mut [u32],
-    clauses: &mut [i32],
-    work: &mut [u32],
-) -> io::Result<State> {
-    let letter = history_text::byte(line, 0);
-    if letter == b'f' {
-        fill(line, s, store, clauses, work);
-        return Ok(s);
-    }
-    if letter == b'a' {
-        records_words::put(
-            store,
-            history_text::long(line, 1),
-            history_text::short(line, 2),
-        );
-        return Ok(s);
-    }
-    let t = call(out, line, s, lits, weights, store, clauses, work)?;
+    let t = match history_text::byte(line, 0) {
+        b's' | b'S' => start(out, line, lent)?,
+        b'p' | b'P' => set(out, line, s, lent)?,
+        b'e' | b'E' => encode(out, line, s, lent)?,
+        _ => {
+            read(out, line, s, lent)?;
+            s
+        }
+    };
     history_print::end_line(out)?;
     Ok(t)
 }
 
+// A number, or its variable in the clause buffer, in all that is lent and not used. Linear in it.
+fn fill(line: &[u8], s: State, lent: &mut Lent) {
+    let w = history_text::short(line, 1);
+    let literal = history_text::literal(line);
+    let records = history_print::used_words(lent.store, s.records);
+    lent.store[records..].fill(w);
+    for i in history_print::used_literals(lent.clauses, s.words)..lent.clauses.len() {
+        numbers::put_signed(lent.clauses, i, literal);
+    }
+    lent.work.fill(w);
+}
+
+// A line over what is lent: words altered, or a call; the state afterwards. Grows as the call does.
+fn turn<W: Write>(out: &mut W, line: &[u8], s: State, lent: &mut Lent) -> io::Result<State> {
+    match history_text::byte(line, 0) {
+        b'f' => fill(line, s, lent),
+        b'a' => records_words::put(
+            lent.store,
+            history_text::long(line, 1),
+            history_text::short(line, 2),
+        ),
+        _ => return call(out, line, s, lent),
+    }
+    Ok(s)
+}
+
 // The line with what it is lent, where the buffers have that much; the state afterwards. Grows as the call does.
-fn lent<W: Write>(
+// The buffers come one by one: parts of a struct's fields, lent on in another struct, get no proof.
+fn over<W: Write>(
     out: &mut W,
     line: &[u8],
     w: World,
-    lits: &[i32],
-    weights: &[u64],
+    lits: &mut [i32],
+    weights: &mut [u64],
     store: &mut [u32],
     clauses: &mut [i32],
     work: &mut [u32],
 ) -> io::Result<State> {
-    let n = w.literals;
-    let k = w.weights;
-    let a = w.store;
-    let b = w.clauses;
-    let c = w.work;
-    let s = w.state;
-    if lits.len() < n {
-        return Ok(s);
+    if lits.len() < w.literals
+        || weights.len() < w.weights
+        || store.len() < w.store
+        || clauses.len() < w.clauses
+        || work.len() < w.work
+    {
+        return Ok(w.state);
     }
-    if weights.len() < k {
-        return Ok(s);
-    }
-    if store.len() < a {
-        return Ok(s);
-    }
-    if clauses.len() < b {
-        return Ok(s);
-    }
-    if work.len() < c {
-        return Ok(s);
-    }
-    turn(
-        out,
-        line,
-        s,
-        &lits[..n],
-        &weights[..k],
-        &mut store[..a],
-        &mut clauses[..b],
-        &mut work[..c],
-    )
+    let mut lent = Lent {
+        lits: &mut lits[..w.literals],
+        weights: &mut weights[..w.weights],
+        store: &mut store[..w.store],
+        clauses: &mut clauses[..w.clauses],
+        work: &mut work[..w.work],
+    };
+    turn(out, line, w.state, &mut lent)
 }
 
-// A weight written at i; nothing past the end. Constant time.
-fn put_weight(weights: &mut [u64], i: usize, w: u64) {
-    if i < weights.len() {
-        weights[i] = w;
-    }
-}
-
-// A literal written at i; nothing past the end. The lowest number of 32 bits is no literal's word. Linear in the line.
-fn put_literal(lits: &mut [i32], i: usize, line: &[u8]) {
-    if lits.len() <= i {
-        return;
-    }
-    if history_text::number(line, 1) == 2147483648 {
-        lits[i] = -2147483648;
-        return;
-    }
-    numbers::put_signed(lits, i, history_text::literal(line));
-}
-
-// One more literal. Linear in the line.
+// One more literal, where there is room. Linear in the line.
 fn literal(line: &[u8], w: World, lits: &mut [i32]) -> World {
-    let n = w.literals;
-    if lits.len() <= n {
+    if lits.len() <= w.literals {
         return w;
     }
-    put_literal(lits, n, line);
-    let s = w.state;
+    if history_text::number(line, 1) == LEAST {
+        lits[w.literals] = i32::MIN;
+    } else {
+        numbers::put_signed(lits, w.literals, history_text::literal(line));
+    }
     World {
-        state: s,
-        literals: n + 1,
-        weights: w.weights,
-        store: w.store,
-        clauses: w.clauses,
-        work: w.work,
+        literals: w.literals + 1,
+        ..w
     }
 }
 
-// One more weight. Linear in the line.
+// One more weight, where there is room. Linear in the line.
 fn weight(line: &[u8], w: World, weights: &mut [u64]) -> World {
-    let n = w.weights;
-    if weights.len() <= n {
+    if weights.len() <= w.weights {
         return w;
     }
-    put_weight(weights, n, history_text::number(line, 2));
-    let s = w.state;
+    weights[w.weights] = history_text::number(line, 2);
     World {
-        state: s,
-        literals: w.literals,
-        weights: n + 1,
-        store: w.store,
-        clauses: w.clauses,
-        work: w.work,
+        weights: w.weights + 1,
+        ..w
     }
 }
 
 // Other lengths for what is lent. Linear in the line.
 fn lend(line: &[u8], w: World) -> World {
-    let s = w.state;
     World {
-        state: s,
-        literals: w.literals,
-        weights: w.weights,
         store: history_text::long(line, 1),
         clauses: history_text::long(line, 2),
         work: history_text::long(line, 3),
+        ..w
     }
 }
 
 // Nothing named, nothing lent, the zero state. Constant time.
 fn fresh() -> World {
-    let s = State {
+    let state = State {
         inputs: 0,
         sum: 0,
         set: 0,
@@ -470,7 +329,7 @@ fn fresh() -> World {
         buckets_used: 0,
     };
     World {
-        state: s,
+        state,
         literals: 0,
         weights: 0,
         store: 0,
@@ -480,105 +339,39 @@ fn fresh() -> World {
 }
 
 // A line of the text; what the history has come to afterwards. Grows as the call does.
-fn line<W: Write>(
-    out: &mut W,
-    line: &[u8],
-    w: World,
-    lits: &mut [i32],
-    weights: &mut [u64],
-    store: &mut [u32],
-    clauses: &mut [i32],
-    work: &mut [u32],
-) -> io::Result<World> {
-    let letter = history_text::byte(line, 0);
-    if letter == b'#' {
-        out.write_all(line)?;
-        history_print::end_line(out)?;
-        return Ok(fresh());
-    }
-    if letter == b'x' {
-        return Ok(literal(line, w, lits));
-    }
-    if letter == b'i' {
-        return Ok(weight(line, literal(line, w, lits), weights));
-    }
-    if letter == b'l' {
-        return Ok(lend(line, w));
-    }
-    let s = lent(out, line, w, lits, weights, store, clauses, work)?;
-    Ok(World {
-        state: s,
-        literals: w.literals,
-        weights: w.weights,
-        store: w.store,
-        clauses: w.clauses,
-        work: w.work,
-    })
-}
-
-// Where the line ends that starts at a place. Linear in the line.
-fn end_of_line(text: &[u8], from: usize) -> usize
-    requires { from ≤ length text.now }
-    ensures { (from ≤ result) × (result ≤ length text.now) }
-{
-    let mut i = from;
-    while i < text.len() {
-        if history_text::byte(text, i) == 10 {
-            return i;
+fn line<W: Write>(out: &mut W, line: &[u8], w: World, buffers: &mut Lent) -> io::Result<World> {
+    match history_text::byte(line, 0) {
+        b'#' => {
+            out.write_all(line)?;
+            history_print::end_line(out)?;
+            Ok(fresh())
         }
-        i += 1;
+        b'x' => Ok(literal(line, w, buffers.lits)),
+        b'i' => Ok(weight(line, literal(line, w, buffers.lits), buffers.weights)),
+        b'l' => Ok(lend(line, w)),
+        _ => {
+            let state = over(
+                out,
+                line,
+                w,
+                buffers.lits,
+                buffers.weights,
+                buffers.store,
+                buffers.clauses,
+                buffers.work,
+            )?;
+            Ok(World { state, ..w })
+        }
     }
-    i
-}
-
-// Where the line behind the one from a place to another starts, or the text ends. Constant time.
-fn next_line(text: &[u8], from: usize, to: usize) -> usize
-    requires { (from < length text.now) × (from ≤ to) }
-    ensures { from < result }
-{
-    if to < text.len() {
-        return to + 1;
-    }
-    text.len()
 }
 
 // Every line of the text, in order. Grows as the calls do.
-pub fn play<W: Write>(
-    out: &mut W,
-    text: &[u8],
-    lits: &mut [i32],
-    weights: &mut [u64],
-    store: &mut [u32],
-    clauses: &mut [i32],
-    work: &mut [u32],
-) -> io::Result<()> {
+pub fn play<W: Write>(out: &mut W, text: &[u8], buffers: &mut Lent) -> io::Result<()> {
     let mut w = fresh();
-    let mut from: usize = 0;
-    while from < text.len() {
-        let to = end_of_line(text, from);
-        w = line(out, &text[from..to], w, lits, weights, store, clauses, work)?;
-        from = next_line(text, from, to);
+    for piece in text.split_inclusive(|b| *b == b'\n') {
+        w = line(out, piece.strip_suffix(b"\n").unwrap_or(piece), w, buffers)?;
     }
     Ok(())
-}
-
-// Every line of the text over these buffers. Grows as the calls do.
-fn play_over<W: Write>(
-    out: &mut W,
-    text: &[u8],
-    lits: &mut [i32; rules::MOST_INPUTS + 1],
-    weights: &mut [u64; rules::MOST_INPUTS + 1],
-    store: &mut [u32; 24000],
-    clauses: &mut [i32; 50000],
-    work: &mut [u32; rules::WORK_WORDS],
-) -> io::Result<()> {
-    play(out, text, lits, weights, store, clauses, work)
-}
-
-fn blank_text() -> [u8; 131072]
-    ensures { 131072 ≡ length result }
-{
-    [0; 131072]
 }
 
 // Reads until the text is full or the input ends: how many bytes stand at its front. Linear in them.
@@ -596,24 +389,36 @@ pub fn read_text<R: Read>(input: &mut R, text: &mut [u8]) -> io::Result<usize>
     Ok(n)
 }
 
-// The histories of standard input, over lists with room for 257 inputs, 3,000 records and 50,000 clause words. Grows as the
-// calls do.
+// The histories of standard input, over lists with room for 257 inputs, 3,000 records and 50,000 clause words. Grows as the calls
+// do.
 pub fn play_input<R: Input + Print>(rt: &R) -> io::Result<()> {
-    let mut text = blank_text();
-    let mut lits = [0i32; rules::MOST_INPUTS + 1];
-    let mut weights = [0u64; rules::MOST_INPUTS + 1];
+    play_over::<R, 131072, 257, 24000, 50000>(rt)
+}
+
+// The histories of standard input, of a text, lists, a store and a clause buffer with room for so much. Grows as the calls do.
+pub fn play_over<
+    R: Input + Print,
+    const TEXT: usize,
+    const INPUTS: usize,
+    const STORE: usize,
+    const CLAUSES: usize,
+>(rt: &R) -> io::Result<()>
+    requires { (TEXT < 2 ^ 60) × (INPUTS < 2 ^ 60) × (STORE < 2 ^ 60) × (CLAUSES < 2 ^ 60) }
+{
+    let mut text = [0u8; TEXT];
+    let mut lits = [0i32; INPUTS];
+    let mut weights = [0u64; INPUTS];
     let mut work = [0u32; rules::WORK_WORDS];
-    let mut store = [0u32; 24000];
-    let mut clauses = [0i32; 50000];
+    let mut store = [0u32; STORE];
+    let mut clauses = [0i32; CLAUSES];
     let mut out = io::writer(rt);
     let n = read_text(&mut rt.reader(), &mut text)?;
-    play_over(
-        &mut out,
-        &text[..n],
-        &mut lits,
-        &mut weights,
-        &mut store,
-        &mut clauses,
-        &mut work,
-    )
+    let mut buffers = Lent {
+        lits: &mut lits,
+        weights: &mut weights,
+        store: &mut store,
+        clauses: &mut clauses,
+        work: &mut work,
+    };
+    play(&mut out, &text[..n], &mut buffers)
 }

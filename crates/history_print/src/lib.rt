@@ -1,7 +1,10 @@
 // Numbers, words, states and digests, written to a writer. A write that fails ends the printing with its error, and no other error comes.
 #![tactic(auto)]
 
-use rules::{Answer, State};
+ghost use Rattle.std.specs.Prelude.{◌≤◌, length};
+ghost use Rattle.std.specs.Iterator.{IsFinite};
+
+use rules::{Refusal, State};
 use std::io;
 use std::io::Write;
 
@@ -15,86 +18,84 @@ pub fn refused<W: Write>(out: &mut W, n: u32) -> io::Result<()> {
     write!(out, " r{n}")
 }
 
+// The number that a call answers, or its refusal.
+pub fn answer<W: Write>(out: &mut W, a: Result<u64, Refusal>) -> io::Result<()> {
+    match a {
+        Ok(n) => number(out, n),
+        Err(refusal) => refused(out, refusal.number()),
+    }
+}
+
+// The number of a refusal, 0 for none.
+pub fn refusal<W: Write>(out: &mut W, a: Result<(), Refusal>) -> io::Result<()> {
+    number(
+        out,
+        a.err().map_or(0, |refusal| u64::from(refusal.number())),
+    )
+}
+
 // What parts one group of numbers from the next.
 pub fn bar<W: Write>(out: &mut W) -> io::Result<()> {
     out.write_all(b" |")
 }
 
-// The words from one place up to another, as they are. Linear in them.
-pub fn words<W: Write>(out: &mut W, s: &[u32], from: usize, to: usize) -> io::Result<()> {
-    let mut i = from;
-    while i < to {
-        number(out, records_words::word(s, i) as u64)?;
-        i += 1;
+pub fn end_line<W: Write>(out: &mut W) -> io::Result<()> {
+    out.write_all(b"\n")
+}
+
+// Words, as they are. Linear in them.
+pub fn words<W: Write>(out: &mut W, s: &[u32]) -> io::Result<()> {
+    for w in s {
+        number(out, u64::from(*w))?;
     }
     Ok(())
 }
 
-// All clause words, each as its literal's word. Linear in them.
+// Clause words, each as its literal's word; by index, since `numbers` alone reads them. Linear in them.
 pub fn literals<W: Write>(out: &mut W, c: &[i32]) -> io::Result<()> {
-    let mut i: usize = 0;
-    while i < c.len() {
-        number(out, numbers::word_at(c, i) as u64)?;
-        i += 1;
+    for i in 0..c.len() {
+        number(out, u64::from(numbers::word_at(c, i)))?;
     }
     Ok(())
 }
 
 // A digest with one more word. Constant time.
 pub fn digest_with(h: u64, w: u32) -> u64 {
-    (16777619 * (h % 4294967291) + (w as u64)) % 4294967291
+    (16777619 * (h % 4294967291) + u64::from(w)) % 4294967291
 }
 
-// The digest of the words from one place up to another, printed behind their count. Linear in them.
-pub fn digest_words<W: Write>(out: &mut W, s: &[u32], from: usize, to: usize) -> io::Result<()> {
-    let mut h: u64 = 0;
-    let mut i = from;
-    while i < to {
-        h = digest_with(h, records_words::word(s, i));
-        i += 1;
-    }
-    digest(out, from, to, h)
+// The digest of words. Linear in them.
+pub fn digest_of<I: Iterator<Item = u32>>(words: I) -> u64
+    requires can { I.can_next words }
+    requires ends { IsFinite (I.remaining words) }
+{
+    words.fold(0, digest_with)
 }
 
-// The digest of clause words from one place up to another, by their literals' words, printed behind their count. Linear in them.
-pub fn digest_literals<W: Write>(out: &mut W, c: &[i32], from: usize, to: usize) -> io::Result<()> {
-    let mut h: u64 = 0;
-    let mut i = from;
-    while i < to {
-        h = digest_with(h, numbers::word_at(c, i));
-        i += 1;
-    }
-    digest(out, from, to, h)
+// How many words there are, and their digest. Linear in them.
+pub fn digest_words<W: Write>(out: &mut W, s: &[u32]) -> io::Result<()> {
+    number(out, s.len() as u64)?;
+    number(out, digest_of(s.iter().copied()))
 }
 
-// A count and a digest.
-fn digest<W: Write>(out: &mut W, from: usize, to: usize, h: u64) -> io::Result<()> {
-    number(out, less(to, from) as u64)?;
-    number(out, h)
-}
-
-// The difference, 0 where there is none. Constant time.
-fn less(x: usize, y: usize) -> usize {
-    if x < y {
-        return 0;
-    }
-    x - y
+// How many clause words there are, and the digest of their literals' words, by index as above. Linear in them.
+pub fn digest_literals<W: Write>(out: &mut W, c: &[i32]) -> io::Result<()> {
+    number(out, c.len() as u64)?;
+    number(out, digest_of((0..c.len()).map(|i| numbers::word_at(c, i))))
 }
 
 // How many words the used records take, all of the store where there are fewer. Constant time.
-pub fn used_words(s: &[u32], records: usize) -> usize {
-    if records::capacity(s) < records {
-        return s.len();
-    }
-    records::WORDS * records
+pub fn used_words(s: &[u32], records: usize) -> usize
+    ensures { result ≤ length s.now }
+{
+    records.saturating_mul(records::WORDS).min(s.len())
 }
 
 // How many of the clause words are used, all where the mark lies past them. Constant time.
-pub fn used_literals(c: &[i32], words: usize) -> usize {
-    if c.len() < words {
-        return c.len();
-    }
-    words
+pub fn used_literals(c: &[i32], words: usize) -> usize
+    ensures { result ≤ length c.now }
+{
+    words.min(c.len())
 }
 
 // Digests of all that is lent. Linear in it.
@@ -105,67 +106,38 @@ pub fn lent<W: Write>(
     clauses: &[i32],
     work: &[u32],
 ) -> io::Result<()> {
-    let records = used_words(store, s.records);
-    let words = used_literals(clauses, s.words);
+    let (records, other_words) = store.split_at(used_words(store, s.records));
+    let (literals, other_literals) = clauses.split_at(used_literals(clauses, s.words));
     bar(out)?;
-    digest_words(out, store, 0, records)?;
-    digest_words(out, store, records, store.len())?;
+    digest_words(out, records)?;
+    digest_words(out, other_words)?;
     bar(out)?;
-    digest_literals(out, clauses, 0, words)?;
-    digest_literals(out, clauses, words, clauses.len())?;
+    digest_literals(out, literals)?;
+    digest_literals(out, other_literals)?;
     bar(out)?;
-    digest_words(out, work, 0, work.len())
+    digest_words(out, work)
 }
 
 // Every field of a state. Constant time.
 pub fn state<W: Write>(out: &mut W, s: State) -> io::Result<()> {
-    number(out, s.inputs as u64)?;
+    number(out, u64::from(s.inputs))?;
     number(out, s.sum)?;
     number(out, s.set)?;
     number(out, s.built)?;
     number(out, s.records as u64)?;
     number(out, s.words as u64)?;
     number(out, s.clauses as u64)?;
-    number(out, s.variables as u64)?;
-    number(out, s.fresh as u64)?;
-    let tares = s.tares;
-    let buckets = s.buckets;
-    tare_slots(out, &tares, s.tares_used)?;
-    bucket_slots(out, &buckets, s.buckets_used)
+    number(out, u64::from(s.variables))?;
+    number(out, u64::from(s.fresh))?;
+    slots(out, &s.tares, s.tares_used)?;
+    slots(out, &s.buckets, s.buckets_used)
 }
 
 // How many slots are used, these, then count and digest of the rest. Linear in the slots.
 fn slots<W: Write>(out: &mut W, slots: &[u32], used: u32) -> io::Result<()> {
+    let (taken, free) = slots.split_at(slots.len().min(used as usize));
     bar(out)?;
-    number(out, used as u64)?;
-    words(out, slots, 0, used as usize)?;
-    digest_words(out, slots, used as usize, slots.len())
-}
-
-fn tare_slots<W: Write>(
-    out: &mut W,
-    tares: &[u32; rules::MOST_TARES],
-    used: u32,
-) -> io::Result<()> {
-    slots(out, tares, used)
-}
-
-fn bucket_slots<W: Write>(
-    out: &mut W,
-    buckets: &[u32; rules::MOST_BUCKETS],
-    used: u32,
-) -> io::Result<()> {
-    slots(out, buckets, used)
-}
-
-// The number of a refusal, 0 for none. Constant time.
-pub fn refusal(a: Answer) -> u64 {
-    match a {
-        Answer::Accepted => 0,
-        Answer::Refused(n) => n as u64,
-    }
-}
-
-pub fn end_line<W: Write>(out: &mut W) -> io::Result<()> {
-    out.write_all(b"\n")
+    number(out, u64::from(used))?;
+    words(out, taken)?;
+    digest_words(out, free)
 }

@@ -1,9 +1,9 @@
 -- Coarse bounds: never above u, and less than W lost.
-use Rattle.std.specs.Prelude.{◌≡◌, Bool, true, false, cond, ◌||◌, List, ℕ, suc, ◌*◌, ◌-◌, ◌/◌, ◌^◌, ◌≤◌, ◌<◌, ltb, eqb, length, ℤ}
+use Rattle.std.specs.Prelude.{◌≡◌, Bool, true, false, cond, ◌||◌, List, ℕ, suc, ◌*◌, ◌-◌, ◌/◌, ◌^◌, ◌≤◌, ◌<◌, ltb, eqb, length, ℤ, Result, Ok, Err}
 use Rattle.std.proofs.Common.{subst, arith, div-add-mod', mod-lt, pow_pos}
 use Rattle.rules.specs.declared.State.{State}
-use Rattle.rules.specs.declared.Coarse.{Coarse}
-use Rattle.rules.specs.declared.Coarse.TheVariants.{Bound, Refused}
+use Rattle.rules.specs.declared.Refusal.{Refusal}
+use Rattle.rules.specs.declared.Refusal.TheVariants.{NotWellFormed}
 use Rattle.rules.specs.Build.{Build, build_of, unbuilt, output_weight}
 use Rattle.rules.specs.WellFormed.{well_formed}
 use Rattle.rules.specs.Coarse.{coarse_at, coarse, coarse_ub}
@@ -36,16 +36,13 @@ coarse_law b u = go (unbuilt b)
     go false = coarse_at_law (2 ^ length b.tares) u (pow_pos (length b.tares))
 
 -- what coarse_ub answers is never above u, and u at least W loses less than W
-pub coarse_ub_law : (s : State) (store : List ℕ) (clauses : List ℤ) (u v : ℕ) → coarse_ub s store clauses u ≡ Bound v → Coarsens (output_weight (build_of s store)) u v
+pub coarse_ub_law : (s : State) (store : List ℕ) (clauses : List ℤ) (u v : ℕ) → coarse_ub s store clauses u ≡ Ok v → Coarsens (output_weight (build_of s store)) u v
 unfolding coarse_ub
 coarse_ub_law s store clauses u v e = go (well_formed s store clauses) e
   where
-    same : (x y : ℕ) → Bound x ≡ Bound y → x ≡ y
+    same : (x y : ℕ) → ◌≡◌ {A = Result ℕ Refusal} (Ok x) (Ok y) → x ≡ y
     same x y k = cc
 
-    go : (t : Bool) → (elim t as (λ x. Coarse) [ true ↦ Bound (coarse (build_of s store) u) | false ↦ Refused 12 ]) ≡ Bound v → Coarsens (output_weight (build_of s store)) u v
+    go : (t : Bool) → (elim t as (λ x. Result ℕ Refusal) [ true ↦ Ok (coarse (build_of s store) u) | false ↦ Err NotWellFormed ]) ≡ Ok v → Coarsens (output_weight (build_of s store)) u v
     go true k = subst (Coarsens (output_weight (build_of s store)) u) (same (coarse (build_of s store) u) v k) (coarse_law (build_of s store) u)
-    go false k = absurd (never k)
-      where
-        never : Refused 12 ≡ Bound v → ⊥
-        never q = let z : ◌≡◌ {A = ℕ} 0 1 = cc in omega arith
+    go false k = cc

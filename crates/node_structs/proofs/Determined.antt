@@ -27,7 +27,7 @@ use Rattle.node_structs.specs.contracts.former_half as former_half
 -- the promise of each function is the fact that its theorem speaks of
 module _ {M : Type 1} {𝓤 : Ura M} (𝓛 : Logic 𝓤) (mem : Memory → SProp 𝓤) (run : Routine → Fun 𝓤) where
   pub copy_nodes_says : (κs : Lfts 2) (a : Args copy-nodes.signature κs) (r : Res copy-nodes.signature κs) (e : AtExit copy-nodes.ended κs) →
-      (copy-nodes.clauses 𝓛 mem run κs a).ensures tt r e ≡ fact 𝓤 (Copies a.0.now e.0.now a.1.0.now a.1.1.0 r)
+      (copy-nodes.clauses 𝓛 mem run κs a).ensures tt r e ≡ fact 𝓤 (Copies a.0.now e.0.now a.1.0.words.now a.1.0.records r)
   copy_nodes_says κs a r e = refl
 
   pub node_at_says : (κs : Lfts 1) (a : Args node-at.signature κs) (r : Res node-at.signature κs) (e : AtExit node-at.ended κs) →

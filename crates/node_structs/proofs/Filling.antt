@@ -5,9 +5,8 @@ use mathlib.Core.List.{List}
 use Prim.Native.Nat.{ℕ, zero, suc, ◌+◌, ◌/◌, ◌≤◌, ◌<◌, min}
 use native.Mathlib.Omega.{arith}
 use lib.Dec.{eqb}
-use lib.ListN.{length, set, get_or, length-set}
+use lib.ListN.{length, set, length-set}
 use Rattle.std.proofs.Common.{add-one}
-use Rattle.std.proofs.lemmas.List.{set-set}
 use lib.Seq.{get_or-set_same, get_or-set_other}
 use borrow.Author.Tests.{eqb-true, eqb-false}
 use Rattle.node_structs.specs.declared.Node.{Node}
@@ -66,19 +65,7 @@ module _ (ns : List Node) (s : List ℕ) (records : ℕ) where
         kept = λ n h. kept r n h;
       }
 
--- a place written field by field
-pub written : (ns : List Node) (i : ℕ) (x y : Node) → i < length ns →
-    set (set ns i (record { link = x.link; maximum = y.maximum })) i
-    (record { link = (get_or (set ns i (record { link = x.link; maximum = y.maximum })) i (node_of 0 0)).link; maximum = x.maximum }) ≡ set ns i x
-written ns i x y low =
-    set-set ns i (record { link = x.link; maximum = y.maximum })
-    (record { link = (get_or (set ns i (record { link = x.link; maximum = y.maximum })) i (node_of 0 0)).link; maximum = x.maximum }) ∙
-    ap (λ (z : Node). set ns i (record { link = z.link; maximum = x.maximum }))
-    (get_or-set_same ns i (record { link = x.link; maximum = y.maximum }) (node_of 0 0) low)
-
-pub filled_turn : (ns ms : List Node) (s : List ℕ) (records i : ℕ) (x y : Node) → ms ≡ filled ns s records i → x ≡ read_node s records i → i < length ms →
-    set (set ms i (record { link = x.link; maximum = y.maximum })) i
-    (record { link = (get_or (set ms i (record { link = x.link; maximum = y.maximum })) i (node_of 0 0)).link; maximum = x.maximum }) ≡
-    filled ns s records (i + 1)
-filled_turn ns ms s records i x y e is low =
-    written ms i x y low ∙ ap (λ (zs : List Node). set zs i x) e ∙ filled_next ns s records i x is ∙ ap (filled ns s records) (sym (add-one i))
+pub filled_turn : (ns ms : List Node) (s : List ℕ) (records i : ℕ) (x : Node) → ms ≡ filled ns s records i → x ≡ read_node s records i →
+    set ms i x ≡ filled ns s records (i + 1)
+filled_turn ns ms s records i x e is =
+    ap (λ (zs : List Node). set zs i x) e ∙ filled_next ns s records i x is ∙ ap (filled ns s records) (sym (add-one i))

@@ -8,96 +8,59 @@ ghost use Rattle.rules.specs.Digits.{digits, top_bit, power_of_two};
 ghost use Rattle.rules.specs.Records.{literal_word, word_literal};
 ghost use Rattle.numbers.specs.Signed.{signed_at, put_signed, word_or_none};
 
-// The largest literal.
-const MOST: i32 = rules::MOST_VARIABLE as i32;
-
-// The least literal.
-const LEAST: i32 = -MOST;
-
-// The bit length of x, 1 for 0. At most 63 turns.
+// The bit length of x, 1 for 0. Constant time.
 pub fn digits(x: u64) -> u32
     ensures value { result ≡ digits x }
     ensures within { (1 ≤ result) × (result ≤ 64) }
 {
-    let mut n: u32 = 1;
-    let mut y = x / 2;
-    let mut left: u32 = 63;
-    while 0 < left {
-        if y == 0 {
-            return n;
-        }
-        n += 1;
-        y = y / 2;
-        left -= 1;
-    }
-    n
+    top_bit(x) + 1
 }
 
-// The power of x's top bit. At most 63 turns.
+// The power of x's top bit. Constant time.
 pub fn top_bit(x: u64) -> u32
     ensures value { result ≡ top_bit x }
     ensures within { result < 64 }
 {
-    digits(x) - 1
+    x.max(1).ilog2()
 }
 
 // 2 to the k, 0 where that does not fit. Constant time.
 pub fn power(k: u32) -> u64
     ensures { result ≡ 2 ^ k % 2 ^ 64 }
 {
-    if 63 < k {
-        return 0;
-    }
-    1u64 << k
+    1u64.checked_shl(k).unwrap_or(0)
 }
 
-// Whether x is a power of two. At most 63 turns.
+// Whether x is a power of two. Constant time.
 pub fn power_of_two(x: u64) -> bool
     ensures { result ≡ power_of_two x }
 {
-    power(top_bit(x)) == x
+    x.is_power_of_two()
 }
 
 // Whether x is a literal: not 0, its variable at most 1,000,000,000. Constant time.
 fn lawful(x: i32) -> bool
     ensures { result ≡ lawful x }
 {
-    if x < LEAST {
-        return false;
-    }
-    if MOST < x {
-        return false;
-    }
-    if x == 0 {
-        return false;
-    }
-    true
+    (1..=rules::MOST_VARIABLE).contains(&x.unsigned_abs())
 }
 
 // The word of a literal, 0 for a number that is none. Constant time.
 fn literal_word(x: i32) -> u32
     ensures { result ≡ word_or_none x }
 {
-    if x < LEAST {
-        return 0;
+    if lawful(x) {
+        2 * x.unsigned_abs() + u32::from(x < 0)
+    } else {
+        0
     }
-    if MOST < x {
-        return 0;
-    }
-    if x < 0 {
-        return 2 * ((-x) as u32) + 1;
-    }
-    2 * (x as u32)
 }
 
 // Whether the number at i is a literal. Constant time.
 pub fn lawful_at(lits: &[i32], i: usize) -> bool
     ensures { result ≡ lawful (signed_at lits.now i) }
 {
-    if i < lits.len() {
-        return lawful(lits[i]);
-    }
-    false
+    i < lits.len() && lawful(lits[i])
 }
 
 // The word of the literal at i, 0 where there is none. Constant time.
@@ -105,9 +68,10 @@ pub fn word_at(lits: &[i32], i: usize) -> u32
     ensures { result ≡ word_or_none (signed_at lits.now i) }
 {
     if i < lits.len() {
-        return literal_word(lits[i]);
+        literal_word(lits[i])
+    } else {
+        0
     }
-    0
 }
 
 // The variable of a literal's word. Constant time.
@@ -128,13 +92,7 @@ pub fn positive(w: u32) -> bool
 pub fn negated(w: u32) -> u32
     ensures { result ≡ literal_word (neg_ℤ (word_literal w)) }
 {
-    if w < 2 {
-        return 0;
-    }
-    if w % 2 == 0 {
-        return w + 1;
-    }
-    w - 1
+    if w < 2 { 0 } else { w ^ 1 }
 }
 
 // The signed number of a word. Constant time.
@@ -142,10 +100,7 @@ fn signed(w: u32) -> i32
     ensures { result ≡ word_literal w }
 {
     let v = (w / 2) as i32;
-    if w % 2 == 0 {
-        return v;
-    }
-    -v
+    if w % 2 == 0 { v } else { -v }
 }
 
 // The signed number of a word, written at i; nothing past the end. Constant time.

@@ -5,7 +5,7 @@ use Prim.Native.Nat.{ℕ, suc, ◌+◌, ◌*◌, ◌-◌, ◌/◌, ◌%◌, ◌^
 use native.Mathlib.Omega.{arith}
 use native.Mathlib.Nat.{mod-lt, div-add-mod', suc-mul, div-eq_of_eq-mul_left, div-eq_of_lt-le}
 use lib.Dec.{eqb, ltb}
-use borrow.Author.Tests.{ne_eqb, eq-eqb, le-ltb, lt-ltb}
+use borrow.Author.Tests.{ne_eqb, le-ltb, lt-ltb}
 use Rattle.rules.specs.Digits.{top_bit}
 use Rattle.rules.specs.Coarse.{coarse_at}
 use Rattle.laws.specs.Lists.Facts.{or_right}
@@ -48,14 +48,6 @@ module _ (w u : ℕ) where
       let same : suc u / w * w ≡ u / w * w = ap (λ (n : ℕ). n * w) (div-eq_of_lt-le {k = u / w} w {m = suc u} (omega arith) (omega arith)) in
       let is : u - u % w - 1 ≡ suc u / w * w - 1 = omega arith in
       is ∙ sym (ap₂ (λ (a b : Bool). cond (a || b) u (suc u / w * w - 1)) (ne_eqb w 1 (λ q. n (omega arith))) (le-ltb u w l))
-
-pub coarse_unbuilt : (b w u : ℕ) → b ≡ 0 → u ≡ cond (eqb b 0) u (coarse_at w u)
-coarse_unbuilt b w u e = sym (ap (λ (t : Bool). cond t u (coarse_at w u)) (eq-eqb b 0 e))
-
-pub coarse_built : (b k p u r : ℕ) → (b ≡ 0 → ⊥) → k < 64 → p ≡ 2 ^ k % 2 ^ 64 → r ≡ coarse_at p u → r ≡ cond (eqb b 0) u (coarse_at (2 ^ k) u)
-coarse_built b k p u r e h q f =
-    f ∙ (ap (λ (w : ℕ). coarse_at w u) (power_whole k p h q) ∙
-    sym (ap (λ (t : Bool). cond t u (coarse_at (2 ^ k) u)) (ne_eqb b 0 e)))
 
 -- the power of a number's top bit
 pub top_power : (x y k p : ℕ) → k ≡ top_bit x → k < 64 → p ≡ 2 ^ k % 2 ^ 64 → x ≡ y → p ≡ 2 ^ top_bit y

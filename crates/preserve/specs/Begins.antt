@@ -1,9 +1,8 @@
 -- After an accepted start any lawful divisor can be set, and nothing else changes.
-use Rattle.std.specs.Prelude.{◌≡◌, Bool, true, false, not, List, ℕ, ℤ}
+use Rattle.std.specs.Prelude.{◌≡◌, Bool, true, false, not, List, ℕ, ℤ, Ok}
 use Rattle.std.proofs.Math.Path.{refl, ap, ap₂, subst}
 use Rattle.std.proofs.Common.{sym, ◌∙◌}
 use Rattle.std.proofs.Math.Bool.{cond}
-use Rattle.rules.specs.declared.Answer.TheVariants.{Accepted}
 use Rattle.rules.specs.Numbers.{divisor_of}
 use Rattle.rules.specs.Refusals.{first_true, divisor_unlawful, answer_of}
 use Rattle.rules.specs.Build.{Build, state_of, build_of, build_over, unbuilt}
@@ -38,8 +37,8 @@ module _ (lits : List ℤ) (weights : List ℕ) (first : ℕ) (store : List ℕ)
   -- a set after a start is accepted, and the state has that divisor and is otherwise as it was
   pub start_then_set :
       let e : StartEnd = start lits weights first store clauses in
-      set_precision e.answer.state e.store e.clauses d ≡ record { answer = Accepted; state = with_set e.answer.state (divisor_of d) }
+      set_precision e.answer.state e.store e.clauses d ≡ record { answer = Ok tt; state = with_set e.answer.state (divisor_of d) }
   unfolding start set_precision set_end answer_of at b
   start_then_set =
-      subst (λ (n : ℕ). set_precision (at n).answer.state (at n).store (at n).clauses d ≡ record { answer = Accepted; state = with_set (at n).answer.state (divisor_of d) }) (sym accepted)
+      subst (λ (n : ℕ). set_precision (at n).answer.state (at n).store (at n).clauses d ≡ record { answer = Ok tt; state = with_set (at n).answer.state (divisor_of d) }) (sym accepted)
       (ap (λ (k : ℕ). set_end k (at 0).answer.state d) none)

@@ -1,16 +1,17 @@
 -- One law for each way through a leaf function.
-use mathlib.Core.Path.{◌≡◌, sym, ap, ◌∙◌}
+use mathlib.Core.Path.{◌≡◌, refl, sym, ap, ◌∙◌}
 use mathlib.Core.Bool.{Bool, cond}
-use mathlib.Core.List.{List, [], ◌∷◌, ◌++◌, append_assoc}
+use mathlib.Core.List.{List, ◌++◌}
 use Prim.Native.Nat.{ℕ, ◌+◌, ◌*◌, ◌/◌, ◌<◌, ◌≤◌}
-use native.Mathlib.Omega.{arith}
-use lib.Dec.{ltb}
-use lib.ListN.{length, take, drop}
-use lib.Seq.{sets, sets-eq}
+use lib.ListN.{length, get_or, take, drop}
+use lib.Seq.{drop-drop}
+use borrow.Rule.Slice.PartMut.{put_mid}
 use borrow.Author.Tests.{lt-ltb, le-ltb, eq-eqb, ne_eqb}
-use Rattle.records_words.specs.Words.{word_at, put_word}
-use Rattle.records_words.proofs.Lay.{eight_stores}
-use Rattle.records.specs.Words.{field_at, held_at, put_record}
+use denote.Enum.Declared.{tag_of}
+use Rattle.records.specs.contracts.Kind.{the_type}
+use Rattle.records.specs.declared.Kind.{Kind}
+use Rattle.records.specs.declared.Kind.TheVariants.{Leaf, Join, Dummy, Output, Waiting}
+use Rattle.records.specs.Words.{kind_word, field_at, held_at, put_record}
 
 module _ (s : List ℕ) (records n k : ℕ) where
   pub field_past : records ≤ n → 0 ≡ field_at s records n k
@@ -26,9 +27,17 @@ module _ (s : List ℕ) (records n k : ℕ) where
     unfolding field_at
     field_none h j = simp (lt-ltb n records i, lt-ltb n (length s / 8) h, le-ltb k 8 j)
 
-    pub field_some : n < length s / 8 → k < 8 → (x : ℕ) → x ≡ word_at s (8 * n + k) → x ≡ field_at s records n k
-    unfolding field_at word_at
-    field_some h j x e = simp (lt-ltb n records i, lt-ltb n (length s / 8) h, lt-ltb k 8 j) e
+    pub field_some : n < length s / 8 → k < 8 → get_or s (8 * n + k) 0 ≡ field_at s records n k
+    unfolding field_at
+    field_some h j = simp (lt-ltb n records i, lt-ltb n (length s / 8) h, lt-ltb k 8 j)
+
+-- a kind as a number is its word
+pub kind_is : (k : Kind) → tag_of the_type k + 1 ≡ kind_word k
+kind_is Leaf = refl
+kind_is Join = refl
+kind_is Dummy = refl
+kind_is Output = refl
+kind_is Waiting = refl
 
 -- a word of a record of one kind
 module _ (s : List ℕ) (records n k j x : ℕ) (e : x ≡ field_at s records n 0) where
@@ -44,14 +53,7 @@ pub record_none : (s : List ℕ) (n : ℕ) (ws : List ℕ) → length s / 8 ≤ 
 unfolding put_record
 record_none s n ws h = simp (le-ltb n (length s / 8) h)
 
-pub record_some : (s₀ s₁ s₂ s₃ s₄ s₅ s₆ s₇ s₈ : List ℕ) (n a b c d e f g h : ℕ) → n < length s₀ / 8 →
-    s₁ ≡ put_word s₀ (8 * n) a → s₂ ≡ put_word s₁ (8 * n + 1) b → s₃ ≡ put_word s₂ (8 * n + 2) c → s₄ ≡ put_word s₃ (8 * n + 3) d →
-    s₅ ≡ put_word s₄ (8 * n + 4) e → s₆ ≡ put_word s₅ (8 * n + 5) f → s₇ ≡ put_word s₆ (8 * n + 6) g → s₈ ≡ put_word s₇ (8 * n + 7) h →
-    s₈ ≡ put_record s₀ n (a ∷ b ∷ c ∷ d ∷ e ∷ f ∷ g ∷ h ∷ [])
+pub record_some : (s : List ℕ) (n m : ℕ) (ws ys : List ℕ) → n < length s / 8 → m ≡ 8 → ys ≡ ws → put_mid (8 * n) m s ys ≡ put_record s n ws
 unfolding put_record
-record_some s₀ s₁ s₂ s₃ s₄ s₅ s₆ s₇ s₈ n a b c d e f g h i p₁ p₂ p₃ p₄ p₅ p₆ p₇ p₈ =
-    let ws : List ℕ = a ∷ b ∷ c ∷ d ∷ e ∷ f ∷ g ∷ h ∷ [] in
-    let all : s₈ ≡ sets s₀ (8 * n) ws = rw (p₈, p₇, p₆, p₅, p₄, p₃, p₂, p₁) (eight_stores s₀ (8 * n) a b c d e f g h) in
-    let here : (take (8 * n) s₀ ++ (ws ++ drop (8 * n + 8) s₀)) ≡ cond (ltb n (length s₀ / 8)) (take (8 * n) s₀ ++ (ws ++ drop (8 * n + 8) s₀)) s₀
-    = ap (λ (b : Bool). cond b (take (8 * n) s₀ ++ (ws ++ drop (8 * n + 8) s₀)) s₀) (sym (lt-ltb n (length s₀ / 8) i)) in
-    all ∙ (sets-eq ws s₀ (8 * n) (omega arith) ∙ (append_assoc (take (8 * n) s₀) ws (drop (8 * n + 8) s₀) ∙ here))
+record_some s n m ws ys h e f =
+    rw (e, f) (ap (λ (z : List ℕ). take (8 * n) s ++ (ws ++ z)) (drop-drop 8 (8 * n) s ∙ refl) ∙ sym (ap (λ (b : Bool). cond b (take (8 * n) s ++ (ws ++ drop (8 * n + 8) s)) s) (lt-ltb n (length s / 8) h)))

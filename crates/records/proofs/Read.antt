@@ -1,13 +1,13 @@
 -- What the fields of a record are, where the words store records.
 use mathlib.Core.Path.{◌≡◌, refl, sym, ap, ap₂, ◌∙◌}
-use mathlib.Core.Bool.{Bool, true, false, not, cond, false≢true}
+use mathlib.Core.Bool.{Bool, true, false, not, cond, ◌&&◌, false≢true}
 use mathlib.Core.List.{List}
 use Prim.Native.Nat.{ℕ, ◌+◌, ◌*◌, ◌/◌, ◌≤◌, ◌<◌, max}
 use native.Mathlib.Omega.{arith}
-use lib.Dec.{eqb, ltb}
+use lib.Dec.{eqb, ltb, leb}
 use lib.ListN.{length, get_or, length-take, get_or-eq_default, get_or-replicate}
 use lib.Seq.{get_or-take}
-use borrow.Author.Tests.{ltb-true, ltb-false, lt-ltb, eq-eqb, ne_eqb}
+use borrow.Author.Tests.{ltb-true, ltb-false, lt-ltb, le-leb, lt-leb}
 use lib.IntN.{ℤ}
 use Rattle.rules.specs.Records.{Kind, leaf, join, dummy, Output, Entry, Record, node, output, waiting, unknown, node_image, record_image, node_of, node_at, dummy_node, left_link, right_link, waits}
 use Rattle.rules.specs.WellFormed.{is_node, is_leaf, is_dummy}
@@ -174,10 +174,10 @@ unfolding record_image node_image entry_weight
 entry_weight_held = by_kind (λ r. cond (eqb (get_or (record_image r) 0 0) 5) (get_or (record_image r) 2 0) 0 ≡ entry_weight r)
     (λ x m h. refl) (λ half l r m h. refl) (λ m h. refl) (λ o. refl) (λ e. refl) refl
 
--- a node's first word is neither 0 nor above 3
-node_word : (r : Record) → cond (eqb (get_or (record_image r) 0 0) 0) false (ltb (get_or (record_image r) 0 0) 4) ≡ is_node r
+-- a node's first word is from 1 to 3
+node_word : (r : Record) → (leb 1 (get_or (record_image r) 0 0) && leb (get_or (record_image r) 0 0) 3) ≡ is_node r
 unfolding record_image node_image is_node
-node_word = by_kind (λ r. cond (eqb (get_or (record_image r) 0 0) 0) false (ltb (get_or (record_image r) 0 0) 4) ≡ is_node r)
+node_word = by_kind (λ r. (leb 1 (get_or (record_image r) 0 0) && leb (get_or (record_image r) 0 0) 3) ≡ is_node r)
     (λ x m h. refl) (λ half l r m h. refl) (λ m h. refl) (λ o. refl) (λ e. refl) refl
 
 -- the words s store rs
@@ -241,15 +241,12 @@ module _ (s : List ℕ) (records : ℕ) (rs : List Record) (h : Stores s records
     first : x ≡ get_or (record_image (get_or rs n unknown)) 0 0
     first = ex ∙ field_is n 0 (omega arith)
 
-    pub node_none : x ≡ 0 → false ≡ place rs n
+    both : (leb 1 x && leb x 3) ≡ place rs n
     unfolding place
-    node_none e =
-        ap (λ (b : Bool). cond b false (ltb (get_or (record_image (get_or rs n unknown)) 0 0) 4)) (sym (eq-eqb _ 0 (sym first ∙ e))) ∙
-        node_word (get_or rs n unknown)
+    both = ap (λ (y : ℕ). leb 1 y && leb y 3) first ∙ node_word (get_or rs n unknown)
 
-    pub node_some : (x ≡ 0 → ⊥) → ltb x 4 ≡ place rs n
-    unfolding place
-    node_some e =
-        ap (λ (y : ℕ). ltb y 4) first ∙
-        (ap (λ (b : Bool). cond b false (ltb (get_or (record_image (get_or rs n unknown)) 0 0) 4)) (sym (ne_eqb _ 0 (λ q. e (first ∙ q)))) ∙
-        node_word (get_or rs n unknown))
+    pub node_none : x < 1 → leb 1 x ≡ place rs n
+    node_none i = let e : leb 1 x ≡ false = lt-leb 1 x i in e ∙ (sym (ap (λ (b : Bool). b && leb x 3) e) ∙ both)
+
+    pub node_some : 1 ≤ x → leb x 3 ≡ place rs n
+    node_some i = sym (ap (λ (b : Bool). b && leb x 3) (le-leb 1 x i)) ∙ both

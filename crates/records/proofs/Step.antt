@@ -1,7 +1,7 @@
 -- Steps of a rule over lent memory, composed.
 use mathlib.Core.Path.{◌≡◌, refl, sym, ap, ◌∙◌, subst}
 use mathlib.Core.Logic.{◌⊎◌, inl, inr}
-use mathlib.Core.Bool.{true, false, true≢false}
+use mathlib.Core.Bool.{Bool, true, false, true≢false}
 use mathlib.Core.List.{List, ◌++◌}
 use Prim.Native.Nat.{ℕ, ◌*◌, ◌≤◌}
 use native.Mathlib.Omega.{arith}
@@ -46,6 +46,12 @@ stop σ f g k = record {
       let nay : Fits e t → ⊥ = λ q. true≢false (sym k ∙ (h.fit q).not_full) in
       over e σ t (f t) h nay (λ q. nay (fits_less e t (f t) (g t) q));
 }
+
+-- marks that are full stay as they are with the full mark set
+pub full_kept : (m z : Marks) → z ≡ full_of m → m.full ≡ true → m ≡ z
+unfolding full_of
+full_kept m z ez k =
+    ap (λ (b : Bool). record { records = m.records; words = m.words; fresh = m.fresh; clauses = m.clauses; full = b }) k ∙ sym ez
 
 -- not full: what is carried fits, and is held
 pub going : (e σ : St) (t : Arena) → Carries e σ t → (marks_of σ).full ≡ false → Fits e t × Holds e σ t

@@ -5,6 +5,7 @@ use Rattle.rules.specs.Records.{Record, node_of, image_of, records_of}
 use Rattle.rules.specs.Totalizer.{Arena}
 use Rattle.rules.specs.Build.{clause_words}
 use Rattle.records.specs.declared.Marks.{Marks}
+use Rattle.records.specs.declared.Store.{Store}
 use Rattle.records_words.specs.Words.{laid}
 
 -- store, clause buffer and marks
@@ -78,6 +79,10 @@ pub record Makes {X : Type 0} (σ τ : St) (x : X) (f : Arena → Arena × X) : 
 pub record Stores (s : List ℕ) (records : ℕ) (rs : List Record) : Type 0 where
   pub image_is : take (8 * records) s ≡ image_of rs
   pub count_is : records ≡ length rs
+
+-- the used records of a store are rs
+abbrev pub Reads : Store → List Record → Type 0
+Reads x rs = Stores x.words.now x.records rs
 
 -- the arena with other records
 unfoldable pub with_records : Arena → List Record → Arena

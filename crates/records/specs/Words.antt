@@ -2,6 +2,16 @@
 use Rattle.std.specs.Prelude.{true, cond, List, [], ◌∷◌, ◌++◌, ℕ, ◌+◌, ◌*◌, ◌/◌, eqb, ltb, length, get_or, take, drop}
 use Rattle.records.specs.declared.Marks.{Marks}
 use Rattle.records.specs.declared.Fields.{Fields}
+use Rattle.records.specs.declared.Kind.{Kind}
+use Rattle.records.specs.declared.Kind.TheVariants.{Leaf, Join, Dummy, Output, Waiting}
+
+-- the word that says a kind
+abbrev pub kind_word : Kind → ℕ
+kind_word Leaf = 1
+kind_word Join = 2
+kind_word Dummy = 3
+kind_word Output = 4
+kind_word Waiting = 5
 
 -- word k of record n of the first `records`, 0 where there is none
 unfoldable pub field_at : List ℕ → ℕ → ℕ → ℕ → ℕ
@@ -14,7 +24,7 @@ held_at s records n k j = cond (eqb (field_at s records n 0) k) (field_at s reco
 
 -- the words of a record
 abbrev pub fields : Fields → List ℕ
-fields x = x.kind ∷ x.a ∷ x.b ∷ x.c ∷ x.maximum ∷ x.height ∷ 0 ∷ 0 ∷ []
+fields x = kind_word x.kind ∷ x.a ∷ x.b ∷ x.c ∷ x.maximum ∷ x.height ∷ 0 ∷ 0 ∷ []
 
 -- the words with eight for record n, where there is a whole record
 unfoldable pub put_record : List ℕ → ℕ → List ℕ → List ℕ

@@ -6,15 +6,17 @@ use Prim.Native.Nat.{ℕ, suc, ◌+◌, ◌*◌, ◌/◌, ◌≤◌, ◌<◌, ma
 use native.Mathlib.Omega.{arith}
 use lib.ListN.{length, take, length-append}
 use lib.IntN.{ℤ}
+use mir.Val.{bool_byte}
 use Rattle.rules.specs.Records.{Node, Record, node, output, waiting, node_of, node_at, node_image, record_image, literal_word, leaf_node, dummy_node}
 use Rattle.rules.specs.Totalizer.{Arena, counts, joining, add, take_number}
 use Rattle.records.specs.declared.Marks.{Marks}
 use Rattle.records.specs.declared.Fields.{Fields}
+use Rattle.records.specs.declared.Kind.TheVariants.{Leaf, Join, Dummy, Output, Waiting}
 use Rattle.records.specs.Words.{fields, put_record, full_of}
 use Rattle.records.specs.Carries.{St, st, store_of, marks_of, written, size, peak, Fits, Holds, Carries, Steps, Makes, Stores, on_records, with_records, with_record, placed}
 use Rattle.records.proofs.Grow.{Grows, grows_trans, peak_append, records_more, record_grows}
 use Rattle.records.proofs.Read.{size_words}
-use Rattle.records.proofs.Step.{stop, going, filled, done, carried, held_stores, makes_steps, makes_same, makes_full}
+use Rattle.records.proofs.Step.{full_kept, stop, going, filled, done, carried, held_stores, makes_steps, makes_same, makes_full}
 use Rattle.records.proofs.Entry.{appended, kept_below}
 use Rattle.records_append.specs.Fresh.{with_numbers}
 
@@ -31,9 +33,11 @@ more r t = (
 )
 
 module _ (s : List ℕ) (c : List ℤ) (m : Marks) (r : Record) where
-  pub append_stop : (x : ℕ) → m.full ≡ true → Makes (st s c m) (st s c m) x (placed r)
+  pub append_stop : (x : ℕ) (z : Marks) → z ≡ full_of m → m.full ≡ true → Makes (st s c m) (st s c z) x (placed r)
   unfolding placed
-  append_stop x k = makes_full (st s c m) (st s c m) x (placed r) k (stop (st s c m) (with_record r) (record_grows r) k)
+  append_stop x z ez k =
+      subst (λ (y : Marks). Makes (st s c m) (st s c y) x (placed r)) (full_kept m z ez k)
+      (makes_full (st s c m) (st s c m) x (placed r) k (stop (st s c m) (with_record r) (record_grows r) k))
 
   module _ (k : m.full ≡ false) where
     none : (x : ℕ) (z : Marks) → z ≡ full_of m → ((e : St) (t : Arena) → Carries e (st s c m) t → Fits e (with_record r t) → Holds e (st s c m) t → ⊥) →
@@ -89,6 +93,11 @@ module _ (s : List ℕ) (c : List ℤ) (m : Marks) (r : Record) where
           );
     }
 
+-- a halving as a word
+pub halving_is : (half : Bool) → bool_byte half ≡ cond half 1 0
+halving_is true = refl
+halving_is false = refl
+
 -- the words of a join
 join_image : (rs : List Record) (half : Bool) (l r top high b : ℕ) → top ≡ (joining rs half l r).maximum → high ≡ (joining rs half l r).height → b ≡ cond half 1 0 →
     record_image (node (joining rs half l r)) ≡ 2 ∷ l ∷ r ∷ b ∷ top ∷ high ∷ 0 ∷ 0 ∷ []
@@ -108,17 +117,17 @@ added n t = refl
 
 module _ (σ τ : St) (y : ℕ) where
   pub leaf_done : (w : ℕ) (x : ℤ) → w ≡ literal_word x →
-      Appends σ τ y (record { kind = 1; a = w; b = 0; c = 0; maximum = 1; height = 0 }) → Makes σ τ y (on_records (λ rs. add rs (leaf_node x)))
+      Appends σ τ y (record { kind = Leaf; a = w; b = 0; c = 0; maximum = 1; height = 0 }) → Makes σ τ y (on_records (λ rs. add rs (leaf_node x)))
   unfolding record_image node_image leaf_node
   leaf_done w x e p =
       makes_same σ τ y (placed (node (leaf_node x))) (on_records (λ rs. add rs (leaf_node x))) (added (leaf_node x))
       (p (node (leaf_node x)) (ap (λ (z : ℕ). 1 ∷ z ∷ 0 ∷ 0 ∷ 1 ∷ 0 ∷ 0 ∷ 0 ∷ []) (sym e)))
 
-  pub dummy_done : Appends σ τ y (record { kind = 3; a = 0; b = 0; c = 0; maximum = 0; height = 0 }) → Makes σ τ y (on_records (λ rs. add rs dummy_node))
+  pub dummy_done : Appends σ τ y (record { kind = Dummy; a = 0; b = 0; c = 0; maximum = 0; height = 0 }) → Makes σ τ y (on_records (λ rs. add rs dummy_node))
   unfolding record_image node_image dummy_node
   dummy_done p = makes_same σ τ y (placed (node dummy_node)) (on_records (λ rs. add rs dummy_node)) (added dummy_node) (p (node dummy_node) refl)
 
-  pub waiting_done : (n w : ℕ) → Appends σ τ y (record { kind = 5; a = n; b = w; c = 0; maximum = 0; height = 0 }) →
+  pub waiting_done : (n w : ℕ) → Appends σ τ y (record { kind = Waiting; a = n; b = w; c = 0; maximum = 0; height = 0 }) →
       Steps σ τ (with_record (waiting (record { node = n; weight = w })))
   unfolding record_image placed
   waiting_done n w p =
@@ -140,10 +149,11 @@ unfolding on_records add
 join_grows half l r t = records_more t (node (joining t.records half l r) ∷ [])
 
 module _ (s : List ℕ) (c : List ℤ) (m : Marks) (half : Bool) (l r : ℕ) where
-  pub join_stop : (x : ℕ) → m.full ≡ true → Makes (st s c m) (st s c m) x (on_records (λ rs. add rs (joining rs half l r)))
-  join_stop x k =
-      makes_full (st s c m) (st s c m) x (on_records (λ rs. add rs (joining rs half l r))) k
-      (stop (st s c m) (λ t. (on_records (λ rs. add rs (joining rs half l r)) t).0) (join_grows half l r) k)
+  pub join_stop : (x : ℕ) (z : Marks) → z ≡ full_of m → m.full ≡ true → Makes (st s c m) (st s c z) x (on_records (λ rs. add rs (joining rs half l r)))
+  join_stop x z ez k =
+      subst (λ (y : Marks). Makes (st s c m) (st s c y) x (on_records (λ rs. add rs (joining rs half l r)))) (full_kept m z ez k)
+      (makes_full (st s c m) (st s c m) x (on_records (λ rs. add rs (joining rs half l r))) k
+      (stop (st s c m) (λ t. (on_records (λ rs. add rs (joining rs half l r)) t).0) (join_grows half l r) k))
 
   -- the maxima and heights that the rule of joining reads
   module _ (k : m.full ≡ false) (lm rm rc lh rh top high : ℕ)
@@ -181,7 +191,7 @@ module _ (s : List ℕ) (c : List ℤ) (m : Marks) (half : Bool) (l r : ℕ) whe
     join_over_high x z ez i = join_over x z ez (omega arith)
 
     pub join_done : (τ : St) (y b : ℕ) → b ≡ cond half 1 0 →
-        Appends (st s c m) τ y (record { kind = 2; a = l; b = r; c = b; maximum = top; height = high }) →
+        Appends (st s c m) τ y (record { kind = Join; a = l; b = r; c = b; maximum = top; height = high }) →
         Makes (st s c m) τ y (on_records (λ rs. add rs (joining rs half l r)))
     unfolding joined
     join_done τ y b eb p = record {
@@ -203,8 +213,10 @@ unfolding with_numbers
 fresh_grows k t = record { records_grow = omega arith; words_grow = omega arith; fresh_grow = omega arith; sizes_grow = omega arith }
 
 module _ (s : List ℕ) (c : List ℤ) (m : Marks) (many : ℕ) where
-  pub fresh_stop : m.full ≡ true → Steps (st s c m) (st s c m) (with_numbers many)
-  fresh_stop k = stop (st s c m) (with_numbers many) (fresh_grows many) k
+  pub fresh_stop : (z : Marks) → z ≡ full_of m → m.full ≡ true → Steps (st s c m) (st s c z) (with_numbers many)
+  fresh_stop z ez k =
+      subst (λ (y : Marks). Steps (st s c m) (st s c y) (with_numbers many)) (full_kept m z ez k)
+      (stop (st s c m) (with_numbers many) (fresh_grows many) k)
 
   module _ (k : m.full ≡ false) where
     pub fresh_end : (z : Marks) → z ≡ full_of m → 1000000001 < m.fresh + many → Steps (st s c m) (st s c z) (with_numbers many)
@@ -233,6 +245,14 @@ module _ (s : List ℕ) (c : List ℤ) (m : Marks) (many : ℕ) where
       h.kept_store,
     ))
 
+  -- past the last number, full before or not
+  pub fresh_over : (z : Marks) → z ≡ full_of m → 1000000001 < m.fresh + many → Steps (st s c m) (st s c z) (with_numbers many)
+  fresh_over z ez i = go m.full refl
+    where
+      go : (b : Bool) → m.full ≡ b → Steps (st s c m) (st s c z) (with_numbers many)
+      go true k = fresh_stop z ez k
+      go false k = fresh_end k z ez i
+
 -- marks with the full mark set are full
 pub full_not : (m z : Marks) → z ≡ full_of m → z.full ≡ false → ⊥
 unfolding full_of
@@ -254,15 +274,17 @@ number_grows n v t =
     (record_grows (output_of n v t.fresh) t) (fresh_grows 1 (with_record (output_of n v t.fresh) t)))
 
 module _ (s : List ℕ) (c : List ℤ) (m : Marks) (n v : ℕ) where
-  pub output_stop : m.full ≡ true → Steps (st s c m) (st s c m) (take_number n v)
-  output_stop k = stop (st s c m) (take_number n v) (number_grows n v) k
+  pub output_stop : (z : Marks) → z ≡ full_of m → m.full ≡ true → Steps (st s c m) (st s c z) (take_number n v)
+  output_stop z ez k =
+      subst (λ (y : Marks). Steps (st s c m) (st s c y) (take_number n v)) (full_kept m z ez k)
+      (stop (st s c m) (take_number n v) (number_grows n v) k)
 
   module _ (k : m.full ≡ false) where
     pub output_end : (z : Marks) → z ≡ full_of m → 1000000000 < m.fresh → Steps (st s c m) (st s c z) (take_number n v)
     unfolding take_number
     output_end z ez i = filled s c m z (take_number n v) k ez (λ e t h f hd q. omega (arith, hd.fresh_is, q.fresh_fit))
 
-    pub output_done : (τ υ : St) (y : ℕ) → Appends (st s c m) τ y (record { kind = 4; a = n; b = v; c = 2 * m.fresh; maximum = 0; height = 0 }) →
+    pub output_done : (τ υ : St) (y : ℕ) → Appends (st s c m) τ y (record { kind = Output; a = n; b = v; c = 2 * m.fresh; maximum = 0; height = 0 }) →
         Steps τ υ (with_numbers 1) → Steps (st s c m) υ (take_number n v)
     unfolding record_image literal_word placed output_of
     output_done τ υ y p q = record {

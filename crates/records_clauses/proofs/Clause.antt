@@ -1,8 +1,8 @@
 -- A clause written where the buffer's used words end.
-use mathlib.Core.Path.{◌≡◌, refl, sym, ap, ap₂, ◌∙◌}
+use mathlib.Core.Path.{◌≡◌, sym, ap, ap₂, ◌∙◌, subst}
 use mathlib.Core.Bool.{Bool, true, false, cond}
 use mathlib.Core.List.{List, [], ◌∷◌, ◌++◌, append_assoc, append-nil}
-use Prim.Native.Nat.{ℕ, ◌+◌, ◌-◌, ◌≤◌, ◌<◌}
+use Prim.Native.Nat.{ℕ, ◌+◌, ◌-◌, ◌≤◌, ◌<◌, ◌^◌}
 use native.Mathlib.Omega.{arith}
 use lib.Dec.{eqb}
 use lib.ListN.{length, take, length-append}
@@ -13,14 +13,14 @@ use Rattle.rules.specs.Totalizer.{Arena}
 use Rattle.rules.specs.Build.{clause_words}
 use Rattle.numbers.specs.Signed.{put_signed}
 use Rattle.records.specs.declared.Marks.{Marks}
-use Rattle.records_clauses.specs.Clauses.{side_of, Buf, buf, push, push_side, push_clause, more_of, with_clause, clause_of}
+use Rattle.records_clauses.specs.Clauses.{side_of, Buf, buf, push, push_side, push_clause, with_clause, clause_of}
 use Rattle.records.specs.Words.{full_of}
 use Rattle.records.specs.Carries.{St, st, buffer_of, marks_of, written, Steps}
 use Rattle.records_words.specs.Words.{laid}
 use Rattle.records_words.proofs.Lay.{laid_length, laid_sets}
 use Rattle.records.proofs.Image.{words_append}
 use Rattle.records.proofs.Grow.{Grows}
-use Rattle.records.proofs.Step.{stop, filled, done}
+use Rattle.records.proofs.Step.{full_kept, stop, filled, done}
 
 -- a clause more needs more
 pub clause_grows : (c : List ℤ) (t : Arena) → Grows t (with_clause c t)
@@ -82,10 +82,6 @@ written_more e t c =
     let used : List ℤ = take (marks_of e).words (buffer_of e) in
     ap (λ x. used ++ x) (words_append t.clauses (c ∷ [])) ∙ sym (append_assoc used (clause_words t.clauses) (clause_words (c ∷ [])))
 
-more_up : (x top : ℕ) → x < top → more_of x top ≡ x + 1
-unfolding more_of
-more_up x top i = rw (lt-ltb x top i) refl
-
 buf_words : Buf → List ℤ
 buf_words (buf c i) = c
 
@@ -93,8 +89,10 @@ buf_mark : Buf → ℕ
 buf_mark (buf c i) = i
 
 module _ (s : List ℕ) (c : List ℤ) (m : Marks) (p q o : ℕ) where
-  pub clause_stop : m.full ≡ true → Steps (st s c m) (st s c m) (with_clause (clause_of p q o))
-  clause_stop k = stop (st s c m) (with_clause (clause_of p q o)) (clause_grows (clause_of p q o)) k
+  pub clause_stop : (z : Marks) → z ≡ full_of m → m.full ≡ true → Steps (st s c m) (st s c z) (with_clause (clause_of p q o))
+  clause_stop z ez k =
+      subst (λ (y : Marks). Steps (st s c m) (st s c y) (with_clause (clause_of p q o))) (full_kept m z ez k)
+      (stop (st s c m) (with_clause (clause_of p q o)) (clause_grows (clause_of p q o)) k)
 
   module _ (k : m.full ≡ false) where
     -- the words that the clause adds
@@ -103,25 +101,17 @@ module _ (s : List ℕ) (c : List ℤ) (m : Marks) (p q o : ℕ) where
         ap length (written_more e t (clause_of p q o)) ∙
         (length-append (written e t) (clause_words (clause_of p q o ∷ [])) ∙ ap (λ (n : ℕ). length (written e t) + n) (clause_width p q o))
 
-    room : (z : Marks) → z ≡ full_of m → length c < m.words + (length (side_of p) + length (side_of q) + 2) →
-        Steps (st s c m) (st s c z) (with_clause (clause_of p q o))
-    room z ez i = filled s c m z (with_clause (clause_of p q o)) k ez
+    -- the clause is longer than what is left
+    pub clause_long : (z : Marks) (x y : ℕ) → z ≡ full_of m → x ≡ length (side_of p) → y ≡ length (side_of q) →
+        length c - m.words < x + y + 2 → Steps (st s c m) (st s c z) (with_clause (clause_of p q o))
+    clause_long z x y ez ex ey i = filled s c m z (with_clause (clause_of p q o)) k ez
         (λ e t h f hd fit. omega (arith, h.same_buffer, added e t, hd.words_is, fit.words_fit))
 
-    -- the mark lies past the end
-    pub clause_past : (z : Marks) → z ≡ full_of m → length c < m.words → Steps (st s c m) (st s c z) (with_clause (clause_of p q o))
-    clause_past z ez i = room z ez (omega arith)
-
-    -- the clause is longer than what is left
-    pub clause_long : (z : Marks) (x y : ℕ) → z ≡ full_of m → x ≡ length (side_of p) → y ≡ length (side_of q) → m.words ≤ length c →
-        length c - m.words < x + y + 2 → Steps (st s c m) (st s c z) (with_clause (clause_of p q o))
-    clause_long z x y ez ex ey h i = room z ez (omega arith)
-
-    pub clause_done : (d : List ℤ) (j x y z : ℕ) → y ≡ length (side_of p) → z ≡ length (side_of q) → m.words ≤ length c → y + z + 2 ≤ length c - m.words →
-        buf d j ≡ push_clause (buf c m.words) p q o → x ≡ more_of m.clauses j →
+    pub clause_done : (d : List ℤ) (j x y z : ℕ) → y ≡ length (side_of p) → z ≡ length (side_of q) → y + z + 2 ≤ length c - m.words →
+        buf d j ≡ push_clause (buf c m.words) p q o → j < 2 ^ 64 → (m.clauses + 1 < 2 ^ 64 → x ≡ m.clauses + 1) →
         Steps (st s c m) (st s d (record { records = m.records; words = j; fresh = m.fresh; clauses = x; full = m.full })) (with_clause (clause_of p q o))
     unfolding buf_words buf_mark with_clause
-    clause_done d j x y z ey ez low room eb ex = done _ _ (with_clause (clause_of p q o)) k (λ e t h f hd.
+    clause_done d j x y z ey ez room eb small ex = done _ _ (with_clause (clause_of p q o)) k (λ e t h f hd.
         let n : length c ≡ length (buffer_of e) = h.same_buffer in
         let w : m.words ≡ length (written e t) = hd.words_is in
         let g : buf d j ≡ end (written e (with_clause (clause_of p q o) t)) (buffer_of e)
@@ -129,7 +119,7 @@ module _ (s : List ℕ) (c : List ℤ) (m : Marks) (p q o : ℕ) where
         (clause_laid (written e t) (buffer_of e) p q o (omega arith) ∙ ap (λ z. end z (buffer_of e)) (sym (written_more e t (clause_of p q o))))) in
         let jw : j ≡ length (written e (with_clause (clause_of p q o) t)) = ap buf_mark g in
         let wl : length (written e (with_clause (clause_of p q o) t)) ≡ length (written e t) + (length (side_of p) + length (side_of q) + 2) = added e t in
-        let xs : x ≡ m.clauses + 1 = ex ∙ more_up m.clauses j (omega (arith, hd.count_low)) in (
+        let xs : x ≡ m.clauses + 1 = ex (omega (arith, wl, hd.count_low)) in (
           (
             record { records_fit = f.records_fit; words_fit = omega arith; fresh_fit = f.fresh_fit; places_fit = f.places_fit; sizes_fit = f.sizes_fit },
             record {

@@ -1,24 +1,25 @@
 -- One law for each way through a leaf function.
 use mathlib.Core.Path.{◌≡◌, refl}
-use mathlib.Core.Bool.{Bool, true, false, cond}
+use mathlib.Core.Bool.{Bool, true, false, not, cond}
 use mathlib.Core.List.{List, [], ◌∷◌}
 use Prim.Native.Nat.{ℕ, ◌+◌, ◌<◌, ◌≤◌}
 use native.Mathlib.Omega.{arith}
 use lib.Dec.{eqb}
 use lib.ListN.{length}
 use lib.IntN.{ℤ}
+use mir.Val.{bool_byte}
 use borrow.Author.Tests.{lt-ltb, le-ltb, eq-eqb, ne_eqb}
 use Rattle.rules.specs.Records.{word_literal}
 use Rattle.numbers.specs.Signed.{put_signed}
-use Rattle.records_clauses.specs.Clauses.{side_of, Buf, buf, push, push_side, push_clause, more_of}
+use Rattle.records_clauses.specs.Clauses.{side_of, Buf, buf, push, push_side, push_clause}
 
-pub width_none : (w : ℕ) → w ≡ 1 → 0 ≡ length (side_of w)
+pub width_is : (w : ℕ) → bool_byte (not (eqb w 1)) ≡ length (side_of w)
 unfolding side_of
-width_none w h = rw (eq-eqb w 1 h) refl
-
-pub width_one : (w : ℕ) → (w ≡ 1 → ⊥) → 1 ≡ length (side_of w)
-unfolding side_of
-width_one w h = rw (ne_eqb w 1 h) refl
+width_is w = go (eqb w 1)
+  where
+    go : (b : Bool) → bool_byte (not b) ≡ length (cond b [] (word_literal w ∷ []))
+    go true = refl
+    go false = refl
 
 pub push_in : (c d : List ℤ) (i w : ℕ) → i < length c → d ≡ put_signed c i (word_literal w) → buf d (i + 1) ≡ push (buf c i) w
 unfolding push
@@ -40,14 +41,6 @@ pub clause_pushed : (b₀ b₁ b₂ b₃ b₄ : Buf) (p q o : ℕ) → b₁ ≡ 
     b₄ ≡ push_clause b₀ p q o
 unfolding push_clause
 clause_pushed b₀ b₁ b₂ b₃ b₄ p q o e f g h = cc
-
-pub more_yes : (x top : ℕ) → x < top → x + 1 ≡ more_of x top
-unfolding more_of
-more_yes x top h = simp (lt-ltb _ _ h)
-
-pub more_no : (x top : ℕ) → top ≤ x → x ≡ more_of x top
-unfolding more_of
-more_no x top h = simp (le-ltb _ _ h)
 
 pub width_le : (w : ℕ) → length (side_of w) ≤ 1
 unfolding side_of

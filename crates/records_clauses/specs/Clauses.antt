@@ -21,10 +21,6 @@ push_side b w = cond (eqb w 1) b (push b w)
 unfoldable pub push_clause : Buf → ℕ → ℕ → ℕ → Buf
 push_clause b p q o = push (push (push_side (push_side b p) q) o) 0
 
--- one more than x, where that is at most the top
-unfoldable pub more_of : ℕ → ℕ → ℕ
-more_of x top = cond (ltb x top) (x + 1) x
-
 -- one clause more
 unfoldable pub with_clause : List ℤ → Arena → Arena
 with_clause c t = record { records = t.records; fresh = t.fresh; clauses = t.clauses ++ (c ∷ []) }

@@ -4,18 +4,16 @@
 
 ghost use Rattle.std.specs.Prelude.{◌≡◌, List, ℕ, length};
 ghost use Rattle.records.specs.Carries.{st, Steps};
-ghost use Rattle.records_clauses.specs.Clauses.{side_of, buf, push, push_side, push_clause, more_of, with_clause, clause_of};
+ghost use Rattle.records_clauses.specs.Clauses.{side_of, buf, push, push_side, push_clause, with_clause, clause_of};
 
 use records::Marks;
 
-// The words that a side takes: none where it is 1, which is no literal's word.
+// The words that a side takes: none where it is 1, which is no literal's word. A side is one word, as it is found, and no Option,
+// which would be taken apart to this same test.
 fn width(w: u32) -> usize
     ensures { result ≡ length (side_of w) }
 {
-    if w == 1 {
-        return 0;
-    }
-    1
+    usize::from(w != 1)
 }
 
 // A literal at the end of the words.
@@ -24,18 +22,17 @@ fn push(c: &mut [i32], i: usize, w: u32) -> usize
 {
     if i < c.len() {
         numbers::put_signed(c, i, w);
-        return i + 1;
+        i + 1
+    } else {
+        i
     }
-    i
 }
 
+// A side at the end of the words, as many as its width.
 fn push_side(c: &mut [i32], i: usize, w: u32) -> usize
     ensures { buf c.new result ≡ push_side (buf c.old i) w }
 {
-    if w == 1 {
-        return i;
-    }
-    push(c, i, w)
+    if w == 1 { i } else { push(c, i, w) }
 }
 
 fn push_clause(c: &mut [i32], i: usize, p: u32, q: u32, o: u32) -> usize
@@ -47,36 +44,17 @@ fn push_clause(c: &mut [i32], i: usize, p: u32, q: u32, o: u32) -> usize
     push(c, l, 0)
 }
 
-// One more than x, where that is at most the top.
-fn more(x: usize, top: usize) -> usize
-    ensures { result ≡ more_of x top }
-{
-    if x < top {
-        return x + 1;
-    }
-    x
-}
-
 // A clause of two sides and an output, closed by 0; a side that is 1 is left out. Constant time.
 pub fn put_clause(c: &mut [i32], m: Marks, p: u32, q: u32, o: u32) -> Marks
     ensures { (s : List ℕ) → Steps (st s c.old m) (st s c.new result) (with_clause (clause_of p q o)) }
 {
-    if m.full {
-        return m;
-    }
-    let w = m.words;
-    if c.len() < w {
+    let room = c.len().saturating_sub(m.words);
+    if m.full || room < width(p) + width(q) + 2 {
         return records::full(m);
     }
-    if c.len() - w < width(p) + width(q) + 2 {
-        return records::full(m);
-    }
-    let k = push_clause(c, w, p, q, o);
     Marks {
-        records: m.records,
-        words: k,
-        fresh: m.fresh,
-        clauses: more(m.clauses, k),
-        full: m.full,
+        words: push_clause(c, m.words, p, q, o),
+        clauses: m.clauses.saturating_add(1),
+        ..m
     }
 }

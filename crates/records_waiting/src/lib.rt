@@ -1,43 +1,26 @@
 // What waits among the records: whether something does, and the largest weight.
 #![tactic(auto)]
 
-ghost use Rattle.std.specs.Prelude.{◌≡◌, List, max};
+ghost use Rattle.std.specs.Prelude.{◌≡◌, List};
 ghost use Rattle.rules.specs.Records.{Record, entries};
 ghost use Rattle.rules.specs.Build.{largest, some_wait};
-ghost use Rattle.records.specs.Carries.{Stores};
+ghost use Rattle.records.specs.Carries.{Reads};
 
-fn larger(x: u32, y: u32) -> u32
-    ensures { result ≡ max x y }
-{
-    if x < y {
-        return y;
-    }
-    x
-}
+use records::Store;
 
 // The largest waiting weight, 0 where nothing waits. Linear in the records.
-pub fn largest(store: &[u32], records: usize) -> u32
-    ensures { (rs : List Record) → Stores store.now records rs → result ≡ largest (entries rs) }
+pub fn largest(store: Store) -> u32
+    ensures { (rs : List Record) → Reads store.entry rs → result ≡ largest (entries rs) }
 {
-    let mut most: u32 = 0;
-    let mut i: usize = 0;
-    while i < records {
-        most = larger(most, records::entry_weight(store, records, i));
-        i += 1;
-    }
-    most
+    (0..store.records)
+        .map(|i| store.entry_weight(i))
+        .max()
+        .unwrap_or(0)
 }
 
 // Whether something waits. Linear in the records.
-pub fn some_wait(store: &[u32], records: usize) -> bool
-    ensures { (rs : List Record) → Stores store.now records rs → result ≡ some_wait (entries rs) }
+pub fn some_wait(store: Store) -> bool
+    ensures { (rs : List Record) → Reads store.entry rs → result ≡ some_wait (entries rs) }
 {
-    let mut i: usize = 0;
-    while i < records {
-        if records::is_waiting(store, records, i) {
-            return true;
-        }
-        i += 1;
-    }
-    false
+    (0..store.records).any(|i| store.is_waiting(i))
 }

@@ -3,10 +3,9 @@ use mathlib.Core.Path.{◌≡◌, refl, sym, ap, ap₂, ◌∙◌}
 use mathlib.Core.List.{List, [], ◌∷◌, ◌++◌}
 use Prim.Native.Nat.{ℕ, suc, ◌+◌, ◌≤◌}
 use native.Mathlib.Omega.{arith}
-use native.Mathlib.Numerals.{add-one, add-two, add-three, add-four, add_five, add_six, add_seven}
 use lib.ListN.{length, take, drop, set, length-append, length-drop, take-append-drop}
 use lib.Seq.{sets, sets-eq, take-append_seam, drop-append-add, drop-drop, take-set-le, length-take-le, drop-append_seam}
-use Rattle.records_words.specs.Words.{put_word, laid}
+use Rattle.records_words.specs.Words.{laid}
 
 pub laid_length : {A : Type 0} (xs s : List A) → length xs ≤ length s → length (laid xs s) ≡ length s
 unfolding laid
@@ -41,10 +40,3 @@ unfolding laid
 front_laid xs s n e h =
     let k : length xs ≡ n = ap length (sym e) ∙ length-take-le n s h in
     sym (ap₂ (λ x j. x ++ drop j s) (sym e) k ∙ take-append-drop n s)
-
--- eight stores are one list of eight
-pub eight_stores : (s : List ℕ) (at a b c d e f g h : ℕ) →
-    put_word (put_word (put_word (put_word (put_word (put_word (put_word (put_word s at a) (at + 1) b) (at + 2) c) (at + 3) d) (at + 4) e) (at + 5) f) (at + 6) g) (at + 7) h ≡
-    sets s at (a ∷ b ∷ c ∷ d ∷ e ∷ f ∷ g ∷ h ∷ [])
-unfolding put_word
-eight_stores s at a b c d e f g h = simp (add-one, add-two, add-three, add-four, add_five, add_six, add_seven)

@@ -17,7 +17,7 @@ use contract.Lifetimes.{Lfts}
 use contract.Monad.{Fun, fact}
 use Rattle.rules.specs.Records.{Record}
 use Rattle.laws.specs.Lists.Facts.{All, occurs}
-use Rattle.records.specs.Carries.{Stores}
+use Rattle.records.specs.Carries.{Reads}
 use Rattle.refine_links.specs.Linked.{Lies, Relinks}
 use Rattle.refine_links.specs.declared.Bucket.{Bucket}
 use Rattle.refine_links.specs.Patched.{with_right}
@@ -46,16 +46,16 @@ relinks_same s s' s'' records bs below false true p q s₀ rs h a once =
     absurd (true≢false (sym (p.fit s₀ rs h a once (q.done s₀ rs h a refl).small)))
 relinks_same s s' s'' records bs below false false p q s₀ rs h a once = (refl, λ e. absurd (false≢true e))
 
-pub relink_determined : (κs : Lfts 1) (a : Dens κs relink-kinds.ps) (x y : (res_t relink-kinds.r κs).Denot) (e f : AtExit (ended_of 1 relink-kinds.ps relink-kinds.r) κs) →
+pub relink_determined : (κs : Lfts 2) (a : Dens κs relink-kinds.ps) (x y : (res_t relink-kinds.r κs).Denot) (e f : AtExit (ended_of 2 relink-kinds.ps relink-kinds.r) κs) →
     relink.Post κs a x e → relink.Post κs a y f → (s₀ : List ℕ) (rs : List Record) → Lies a.0.now a.1.0 s₀ rs →
-    All (λ b. b < length rs) (take a.1.1.1.0 a.1.1.0) → ((n : ℕ) → occurs n (take a.1.1.1.0 a.1.1.0) ≤ 1) →
+    All (λ b. b < length rs) a.1.1.0.now → ((n : ℕ) → occurs n a.1.1.0.now ≤ 1) →
     (x ≡ y) × (x ≡ true → e.0.now ≡ f.0.now)
 relink_determined κs a x y e f p q s₀ rs h in_rs once =
-    relinks_same a.0.now e.0.now f.0.now a.1.0 (take a.1.1.1.0 a.1.1.0) a.1.1.1.1.0 x y p q s₀ rs h in_rs once
+    relinks_same a.0.now e.0.now f.0.now a.1.0 a.1.1.0.now a.1.1.1.0 x y p q s₀ rs h in_rs once
 
 halves_same : (xs ys : List ℕ) (n : ℕ) → take n xs ≡ take n ys → drop n xs ≡ drop n ys → xs ≡ ys
 halves_same xs ys n e f = sym (take-append-drop n xs) ∙ (ap₂ (λ (s t : List ℕ). s ++ t) e f ∙ take-append-drop n ys)
 
-pub former_halves_determined : (κs : Lfts 1) (a : Dens κs former-halves-kinds.ps) (x y : (res_t former-halves-kinds.r κs).Denot) (e f : AtExit (ended_of 1 former-halves-kinds.ps former-halves-kinds.r) κs) →
-    former-halves.Post κs a x e → former-halves.Post κs a y f → (rs : List Record) → Stores a.0.now a.1.0 rs → x ≡ y
-former_halves_determined κs a x y e f p q rs h = halves_same x y a.1.1.1.0 (p.0 rs h ∙ sym (q.0 rs h)) (p.1.0 ∙ sym q.1.0)
+pub former_halves_determined : (κs : Lfts 2) (a : Dens κs former-halves-kinds.ps) (x y : (res_t former-halves-kinds.r κs).Denot) (e f : AtExit (ended_of 2 former-halves-kinds.ps former-halves-kinds.r) κs) →
+    former-halves.Post κs a x e → former-halves.Post κs a y f → (rs : List Record) → Reads a.0 rs → x ≡ y
+former_halves_determined κs a x y e f p q rs h = halves_same x y (length a.1.0.now) (p.0 rs h ∙ sym (q.0 rs h)) (p.1.0 ∙ sym q.1.0)

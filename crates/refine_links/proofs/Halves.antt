@@ -1,7 +1,7 @@
 -- The halves of the former right maxima, one bucket after the other.
 use mathlib.Core.Path.{◌≡◌, sym, ap, ap₂, ◌∙◌}
 use mathlib.Core.List.{List, [], ◌∷◌, ◌++◌, map}
-use Prim.Native.Nat.{ℕ, suc, ◌+◌, ◌-◌, ◌/◌, ◌≤◌, ◌<◌}
+use Prim.Native.Nat.{ℕ, suc, ◌+◌, ◌-◌, ◌/◌, ◌<◌}
 use native.Mathlib.Omega.{arith}
 use lib.ListN.{length, get_or, set, take, drop, replicate}
 use lib.Seq.{take-suc, take-suc-set, drop-set-lt, drop-drop}
@@ -23,14 +23,8 @@ map_turn f xs ys i y h k e ih =
     (ap₂ (λ (t : List ℕ) (z : ℕ). t ++ (z ∷ [])) ih e ∙
     (sym (map_append f (take i xs) (get_or xs i 0 ∷ [])) ∙ ap (map f) (sym (take-suc xs i 0 h)))))
 
-pub map_end : (f : ℕ → ℕ) (xs ys : List ℕ) (i n : ℕ) → i ≤ n → n ≤ i → take i ys ≡ map f (take i xs) → take n ys ≡ map f (take n xs)
-map_end f xs ys i n h k e = let same : n ≡ i = omega arith in rw same e
-
 -- the slots after it are still 0
 pub rest_turn : (ys : List ℕ) (i y n : ℕ) → i < n → drop i ys ≡ replicate (n - i) 0 → drop (i + 1) (set ys i y) ≡ replicate (n - (i + 1)) 0
 rest_turn ys i y n h e =
     let k : n - i ≡ suc (n - (i + 1)) = omega arith in
     drop-set-lt (i + 1) ys i y (omega arith) ∙ (sym (drop-drop 1 i ys) ∙ (ap (drop 1) e ∙ ap (λ (j : ℕ). drop 1 (replicate j 0)) k))
-
-pub rest_end : (ys : List ℕ) (i n m : ℕ) → i ≤ m → m ≤ i → drop i ys ≡ replicate (n - i) 0 → drop m ys ≡ replicate (n - m) 0
-rest_end ys i n m h k e = let same : m ≡ i = omega arith in rw same e

@@ -1,18 +1,17 @@
 -- One bucket linked anew over the words, and the turns of the loop over all of them.
 use mathlib.Core.Path.{◌≡◌, refl, sym, ap, ap₂, ◌∙◌, subst}
-use mathlib.Core.Logic.{◌≢◌}
 use mathlib.Core.Bool.{Bool, true, false, cond, false≢true, true≢false}
 use mathlib.Core.List.{List, [], ◌∷◌, ◌++◌, reverse}
-use Prim.Native.Nat.{ℕ, zero, suc, ◌+◌, ◌*◌, ◌-◌, ◌/◌, ◌≤◌, ◌<◌, max}
+use Prim.Native.Nat.{ℕ, suc, ◌+◌, ◌*◌, ◌-◌, ◌/◌, ◌≤◌, ◌<◌, max}
 use native.Mathlib.Omega.{arith}
 use lib.Dec.{ltb}
-use lib.ListN.{length, get_or, take, drop, get_or-append}
-use lib.Seq.{get_or-take, get_or-drop, get_or-append-add, length-take-le, take-suc, take-add}
+use lib.ListN.{length, get_or, take, drop, get_or-append, take-append-drop, drop_of_length-le}
+use lib.Seq.{get_or-take, get_or-drop, get_or-append-add, length-take-le, drop-cons}
 use borrow.Author.Tests.{ltb-true, ltb-false}
 use Rattle.rules.specs.Records.{Record, node, node_of, node_at, left_link, node_image, record_image, image_of}
 use Rattle.rules.specs.Totalizer.{counts, joining}
 use Rattle.rules.specs.Refinement.{relink}
-use Rattle.laws.specs.Lists.Facts.{All, All_map, All_self, occurs, occurs_here, occurs_append, occurs_none}
+use Rattle.laws.specs.Lists.Facts.{All, All_self, occurs, occurs_here, occurs_append}
 use Rattle.laws.specs.WellFormed.Keeps.{All_reverse}
 use Rattle.laws.specs.Records.Words.{image_length}
 use Rattle.records.specs.Words.{put_record}
@@ -22,7 +21,7 @@ use Rattle.records.proofs.Entry.{patched}
 use Rattle.refine_links.specs.declared.Bucket.{Bucket}
 use Rattle.refine_links.specs.Patched.{bucket_words}
 use Rattle.refine_links.specs.Linked.{Lies, renewed, linked, Links, Relinks}
-use Rattle.refine_links.proofs.Slots.{reverse_last, slot_fact, slot_stands}
+use Rattle.refine_links.proofs.Slots.{All_at, occurs_reverse}
 use Rattle.refine_links.proofs.Renewing.{linked_length, relink_first, peak_set, peak_linked}
 
 pub lies_stores : (s : List ℕ) (records : ℕ) (s₀ : List ℕ) (rs : List Record) → Lies s records s₀ rs → Stores s records rs
@@ -123,106 +122,86 @@ module _ (s : List ℕ) (records b below l half bm lm lh bh top high : ℕ)
 
 -- The loop over all of them ----------------------------------------------------------------------------------------------------------
 
--- what is left of the work, from here, is the whole work
-pub record Going (s s' : List ℕ) (records : ℕ) (xs : List ℕ) (used below i next : ℕ) : Type 0 where
+-- after i buckets: what is left of the work, from here, is the whole work
+pub record Going (s s' : List ℕ) (records : ℕ) (xs : List ℕ) (below i next : ℕ) : Type 0 where
   pub same_length : length s' ≡ length s
-  pub kept : (k : ℕ) → occurs (k / 8) (take used xs) ≡ 0 → get_or s' k 0 ≡ get_or s k 0
-  pub left : (s₀ : List ℕ) (rs : List Record) → Lies s records s₀ rs → All (λ b. b < length rs) (take used xs) →
+  pub kept : (k : ℕ) → occurs (k / 8) xs ≡ 0 → get_or s' k 0 ≡ get_or s k 0
+  pub left : (s₀ : List ℕ) (rs : List Record) → Lies s records s₀ rs → All (λ b. b < length rs) xs →
       (qs : List Record) × Lies s' records s₀ qs × (length qs ≡ length rs) ×
-      (relink qs next (reverse (take i xs)) ≡ relink rs below (reverse (take used xs)))
+      (relink qs next (drop i (reverse xs)) ≡ relink rs below (reverse xs))
 
-pub going_start : (s : List ℕ) (records : ℕ) (xs : List ℕ) (used below : ℕ) → Going s s records xs used below used below
-going_start s records xs used below = record {
+pub going_start : (s : List ℕ) (records : ℕ) (xs : List ℕ) (below : ℕ) → Going s s records xs below 0 below
+going_start s records xs below = record {
   same_length = refl;
   kept = λ k h. refl;
   left = λ s₀ rs h a. (rs, h, refl, refl);
 }
 
-pub going_end : (s s' : List ℕ) (records : ℕ) (xs : List ℕ) (used below i next : ℕ) → i ≤ 0 → Going s s' records xs used below i next →
-    Relinks s s' records (take used xs) below true
+pub going_end : (s s' : List ℕ) (records : ℕ) (xs : List ℕ) (below i next : ℕ) → i ≡ length (reverse xs) → Going s s' records xs below i next →
+    Relinks s s' records xs below true
 unfolding relink
-going_end s s' records xs used below zero next e g = record {
+going_end s s' records xs below i next e g = record {
   same_length = g.same_length;
   kept = g.kept;
-  done = λ s₀ rs h a yes. let x = g.left s₀ rs h a in subst (Lies s' records s₀) x.3 x.1;
+  done = λ s₀ rs h a yes.
+      let x = g.left s₀ rs h a in
+      let none : drop i (reverse xs) ≡ [] = drop_of_length-le (reverse xs) {i = i} (omega arith) in
+      subst (Lies s' records s₀) (ap (relink x.0 next) (sym none) ∙ x.3) x.1;
   fit = λ s₀ rs h a once small. refl;
 }
-going_end s s' records xs used below (suc i) next e g = absurd (omega arith)
 
-module _ (s s' s'' : List ℕ) (records : ℕ) (xs : List ℕ) (used below i next : ℕ) (in-xs : used ≤ length xs) (some : i < used)
-    (g : Going s s' records xs used below (suc i) next) where
-  abbrev b : ℕ
-  b = get_or xs i 0
+-- one turn, at bucket b
+module _ (s s' s'' : List ℕ) (records : ℕ) (xs : List ℕ) (below i next b : ℕ) (at : (i < length (reverse xs)) × (b ≡ get_or (reverse xs) i b))
+    (g : Going s s' records xs below i next) where
+  abbrev above : List ℕ
+  above = drop (i + 1) (reverse xs)
 
-  stands : (k : ℕ) → occurs (k / 8) (take used xs) ≡ 0 → k / 8 ≡ b → ⊥
+  here : drop i (reverse xs) ≡ b ∷ above
+  here =
+      let up : suc i ≡ i + 1 = omega arith in
+      drop-cons (reverse xs) i b at.0 ∙ ap₂ (λ (c j : ℕ). c ∷ drop j (reverse xs)) (sym at.1) up
+
+  fact : (P : ℕ → Type 0) → All P xs → P b
+  fact P a = subst P (sym at.1) (All_at P (reverse xs) i b at.0 (All_reverse P xs a))
+
+  stands : (k : ℕ) → occurs (k / 8) xs ≡ 0 → k / 8 ≡ b → ⊥
   stands k none e =
-      let z : occurs b (take used xs) ≡ 0 = ap (λ (n : ℕ). occurs n (take used xs)) (sym e) ∙ none in
-      omega (arith, slot_stands xs used i in-xs some)
+      let z : occurs b xs ≡ 0 = ap (λ (n : ℕ). occurs n xs) (sym e) ∙ none in
+      omega (arith, fact (λ n. 1 ≤ occurs n xs) (All_self xs))
 
-  inside : (rs qs : List Record) → length qs ≡ length rs → All (λ c. c < length rs) (take used xs) → b < length qs
-  inside rs qs n a = subst (λ (k : ℕ). b < k) (sym n) (slot_fact (λ c. c < length rs) xs used i in-xs some a)
+  inside : (rs qs : List Record) → length qs ≡ length rs → All (λ c. c < length rs) xs → b < length qs
+  inside rs qs n a = subst (λ (k : ℕ). b < k) (sym n) (fact (λ c. c < length rs) a)
 
-  first : (qs : List Record) → relink qs next (reverse (take (suc i) xs)) ≡ relink (linked qs next b) b (reverse (take i xs))
-  first qs = ap (relink qs next) (reverse_last xs i (omega arith)) ∙ relink_first qs next b (reverse (take i xs))
-
-  going_turn : Links s' s'' records b next true → Going s s'' records xs used below i b
-  going_turn p = record {
+  pub going_turn : (r : Bool) → r ≡ true → Links s' s'' records b next r → Going s s'' records xs below (i + 1) b
+  going_turn r e p = record {
     same_length = p.same_length ∙ g.same_length;
     kept = λ k none. p.kept k (stands k none) ∙ g.kept k none;
     left = λ s₀ rs h a.
         let x = g.left s₀ rs h a in
         let qs : List Record = x.0 in
-        (linked qs next b, p.done s₀ qs x.1 (inside rs qs x.2 a) refl, linked_length qs next b ∙ x.2, sym (first qs) ∙ x.3);
+        let first : relink qs next (drop i (reverse xs)) ≡ relink (linked qs next b) b above
+        = ap (relink qs next) here ∙ relink_first qs next b above in
+        (linked qs next b, p.done s₀ qs x.1 (inside rs qs x.2 a) e, linked_length qs next b ∙ x.2, sym first ∙ x.3);
   }
 
   -- no bucket above is the same one
-  alone : ((n : ℕ) → occurs n (take used xs) ≤ 1) → occurs b (reverse (take i xs)) ≡ 0
-  unfolding occurs
+  alone : ((n : ℕ) → occurs n xs ≤ 1) → occurs b above ≡ 0
   alone once =
-      let n : suc i + (used - suc i) ≡ used = omega arith in
-      let parts : take used xs ≡ take (suc i) xs ++ take (used - suc i) (drop (suc i) xs) =
-      ap (λ (k : ℕ). take k xs) (sym n) ∙ take-add (suc i) (used - suc i) xs in
-      let one : occurs b (b ∷ []) ≡ 1 = occurs_here b b [] refl in
-      let all : occurs b (take used xs) ≡ occurs b (take (suc i) xs) + occurs b (take (used - suc i) (drop (suc i) xs)) =
-      ap (occurs b) parts ∙ occurs_append b (take (suc i) xs) (take (used - suc i) (drop (suc i) xs)) in
-      let last : occurs b (take (suc i) xs) ≡ occurs b (take i xs) + occurs b (b ∷ []) =
-      ap (occurs b) (take-suc xs i 0 (omega arith)) ∙ occurs_append b (take i xs) (b ∷ []) in
-      let none : occurs b (take i xs) ≡ 0 = omega (arith, once b, all, last, one) in
-      occurs_none (λ c. c ≢ b) b (reverse (take i xs)) (All_reverse (λ c. c ≢ b) (take i xs) (apart none)) (λ (ne : b ≢ b). ne refl)
-    where
-      apart : occurs b (take i xs) ≡ 0 → All (λ c. c ≢ b) (take i xs)
-      apart none =
-          All_map {P = λ c. 1 ≤ occurs c (take i xs)} {Q = λ c. c ≢ b}
-          (λ c h e. let z : occurs c (take i xs) ≡ 0 = ap (λ (n : ℕ). occurs n (take i xs)) e ∙ none in omega arith) (take i xs) (All_self (take i xs))
+      let all : occurs b (reverse xs) ≡ occurs b (take i (reverse xs)) + occurs b (drop i (reverse xs)) =
+      ap (occurs b) (sym (take-append-drop i (reverse xs))) ∙ occurs_append b (take i (reverse xs)) (drop i (reverse xs)) in
+      let last : occurs b (drop i (reverse xs)) ≡ suc (occurs b above) = ap (occurs b) here ∙ occurs_here b b above refl in
+      omega (arith, once b, occurs_reverse b xs, all, last)
 
-  going_over : Links s' s'' records b next false → Relinks s s'' records (take used xs) below false
-  going_over p = record {
+  pub going_over : (r : Bool) → r ≡ false → Links s' s'' records b next r → Relinks s s'' records xs below false
+  going_over r e p = record {
     same_length = p.same_length ∙ g.same_length;
     kept = λ k none. p.kept k (stands k none) ∙ g.kept k none;
     done = λ s₀ rs h a yes. absurd (false≢true yes);
     fit = λ s₀ rs h a once small.
         let x = g.left s₀ rs h a in
         let qs : List Record = x.0 in
-        let whole : relink qs next (b ∷ reverse (take i xs)) ≡ relink rs below (reverse (take used xs)) = ap (relink qs next) (sym (reverse_last xs i (omega arith))) ∙ x.3 in
-        let most : size (node (renewed qs next b)) ≤ peak (relink rs below (reverse (take used xs)))
-        = subst (λ (t : List Record). size (node (renewed qs next b)) ≤ peak t) whole (peak_linked qs next b (reverse (take i xs)) (inside rs qs x.2 a) (alone once)) in
-        absurd (omega (arith, most, p.over s₀ qs x.1 refl, small));
+        let whole : relink qs next (b ∷ above) ≡ relink rs below (reverse xs) = ap (relink qs next) (sym here) ∙ x.3 in
+        let most : size (node (renewed qs next b)) ≤ peak (relink rs below (reverse xs))
+        = subst (λ (t : List Record). size (node (renewed qs next b)) ≤ peak t) whole (peak_linked qs next b above (inside rs qs x.2 a) (alone once)) in
+        absurd (omega (arith, most, p.over s₀ qs x.1 e, small));
   }
-
--- the same as the loop counts
-module _ (s s' s'' : List ℕ) (records : ℕ) (xs : List ℕ) (used below : ℕ) (in-xs : used ≤ length xs) where
-  pub relink_turn : (i next : ℕ) (r : Bool) → 0 < i → i ≤ used → r ≡ true → Going s s' records xs used below i next →
-      Links s' s'' records (get_or xs (i - 1) 0) next r → Going s s'' records xs used below (i - 1) (get_or xs (i - 1) 0)
-  relink_turn zero next r some low e g = absurd (omega arith)
-  relink_turn (suc i) next r some low e g =
-      let n : suc i - 1 ≡ i = omega arith in
-      subst (λ (j : ℕ). Links s' s'' records (get_or xs j 0) next r → Going s s'' records xs used below j (get_or xs j 0)) (sym n)
-      (λ p. going_turn s s' s'' records xs used below i next in-xs (omega arith) g (subst (Links s' s'' records (get_or xs i 0) next) e p))
-
-  pub relink_over : (i next : ℕ) (r : Bool) → 0 < i → i ≤ used → r ≡ false → Going s s' records xs used below i next →
-      Links s' s'' records (get_or xs (i - 1) 0) next r → Relinks s s'' records (take used xs) below false
-  relink_over zero next r some low e g = absurd (omega arith)
-  relink_over (suc i) next r some low e g =
-      let n : suc i - 1 ≡ i = omega arith in
-      subst (λ (j : ℕ). Links s' s'' records (get_or xs j 0) next r → Relinks s s'' records (take used xs) below false) (sym n)
-      (λ p. going_over s s' s'' records xs used below i next in-xs (omega arith) g (subst (Links s' s'' records (get_or xs i 0) next) e p))

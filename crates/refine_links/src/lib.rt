@@ -4,12 +4,12 @@
 ghost use Rattle.std.specs.Prelude.{◌≡◌, List, map, ◌-◌, ◌≤◌, length, take, drop, replicate};
 ghost use Rattle.rules.specs.Records.{Record};
 ghost use Rattle.rules.specs.Refinement.{former_half};
-ghost use Rattle.records.specs.Carries.{Stores};
+ghost use Rattle.records.specs.Carries.{Reads};
 ghost use Rattle.records.specs.Words.{put_record};
 ghost use Rattle.refine_links.specs.Linked.{Links, Relinks};
 ghost use Rattle.refine_links.specs.Patched.{with_right, bucket_words};
 
-use records::Fields;
+use records::{Fields, Kind, Store};
 
 // What the record of a bucket holds: its right side, the bucket below or a dummy, stands halved.
 #[derive(Clone, Copy)]
@@ -28,12 +28,11 @@ pub fn patch(b: &mut Bucket, below: u32)
 }
 
 // The bucket, lent to `patch` and handed back. Constant time.
-fn patched(b: Bucket, below: u32) -> Bucket
+fn patched(mut b: Bucket, below: u32) -> Bucket
     ensures { result ≡ with_right b below }
 {
-    let mut lent = b;
-    patch(&mut lent, below);
-    lent
+    patch(&mut b, below);
+    b
 }
 
 // The words of a bucket's record; nothing past the last whole record. Constant time.
@@ -44,7 +43,7 @@ fn put_bucket(store: &mut [u32], n: usize, b: Bucket)
         store,
         n,
         Fields {
-            kind: records::JOIN,
+            kind: Kind::Join,
             a: b.left,
             b: b.right,
             c: 1,
@@ -59,46 +58,37 @@ fn put_bucket(store: &mut [u32], n: usize, b: Bucket)
 fn link(store: &mut [u32], records: usize, b: u32, below: u32) -> bool
     ensures { Links store.old store.new records b below result }
 {
-    let l = records::left(store, records, b);
-    let half = records_append::counted(true, records::maximum(store, records, below));
-    let maximum = records_append::sum(records::maximum(store, records, l), half);
-    let height = records_append::above(
-        records::height(store, records, l),
-        records::height(store, records, below),
-    );
-    if records::MOST_WORD < maximum {
+    let old = Store {
+        words: store,
+        records,
+    };
+    let left = old.left(b);
+    let half = records_append::counted(true, old.maximum(below));
+    let maximum = records_append::sum(old.maximum(left), half);
+    let height = records_append::above(old.height(left), old.height(below));
+    let Ok(maximum) = u32::try_from(maximum) else {
         return false;
-    }
-    if records::MOST_WORD < height {
+    };
+    let Ok(height) = u32::try_from(height) else {
         return false;
-    }
+    };
     let renewed = Bucket {
-        left: l,
-        right: records::right(store, records, b),
-        maximum: maximum as u32,
-        height: height as u32,
+        left,
+        right: old.right(b),
+        maximum,
+        height,
     };
     put_bucket(store, b as usize, patched(renewed, below));
     true
 }
 
-// The used buckets from the last to the first, each linked to the one below it, the last to `below`; false, and stopped, where a
+// The buckets from the last to the first, each linked to the one below it, the last to `below`; false, and stopped, where a
 // maximum or height does not fit a word. A turn a bucket, at most 20.
-pub fn relink(
-    store: &mut [u32],
-    records: usize,
-    buckets: [u32; rules::MOST_BUCKETS],
-    used: usize,
-    below: u32,
-) -> bool
-    requires { used ≤ 20 }
-    ensures { Relinks store.old store.new records (take used buckets) below result }
+pub fn relink(store: &mut [u32], records: usize, buckets: &[u32], below: u32) -> bool
+    ensures { Relinks store.old store.new records buckets.now below result }
 {
     let mut next = below;
-    let mut i = used;
-    while 0 < i {
-        i -= 1;
-        let b = buckets[i];
+    for &b in buckets.iter().rev() {
         if !link(store, records, b, next) {
             return false;
         }
@@ -108,30 +98,22 @@ pub fn relink(
 }
 
 // Half the maximum of the right link of bucket b. Constant time.
-fn former_half(store: &[u32], records: usize, b: u32) -> u32
-    ensures { (rs : List Record) → Stores store.now records rs → result ≡ former_half rs b }
+fn former_half(store: Store, b: u32) -> u32
+    ensures { (rs : List Record) → Reads store.entry rs → result ≡ former_half rs b }
 {
-    records::maximum(store, records, records::right(store, records, b)) / 2
+    store.maximum(store.right(b)) / 2
 }
 
-// Half the maximum of the right link of each used bucket, before they are linked anew; other slots are 0. A turn a bucket, at
-// most 20.
-pub fn former_halves(
-    store: &[u32],
-    records: usize,
-    buckets: [u32; rules::MOST_BUCKETS],
-    used: usize,
-) -> [u32; rules::MOST_BUCKETS]
-    requires { used ≤ 20 }
-    ensures halves { (rs : List Record) → Stores store.now records rs → take used result ≡ map (former_half rs) (take used buckets) }
-    ensures rest { drop used result ≡ replicate (20 - used) 0 }
+// Half the maximum of the right link of each bucket, before they are linked anew; other slots are 0. A turn a bucket, at most 20.
+pub fn former_halves(store: Store, buckets: &[u32]) -> [u32; rules::MOST_BUCKETS]
+    requires { length buckets.now ≤ 20 }
+    ensures halves { (rs : List Record) → Reads store.entry rs → take (length buckets.now) result ≡ map (former_half rs) buckets.now }
+    ensures rest { drop (length buckets.now) result ≡ replicate (20 - length buckets.now) 0 }
     ensures length { length result ≡ 20 }
 {
-    let mut halves: [u32; rules::MOST_BUCKETS] = [0; rules::MOST_BUCKETS];
-    let mut i: usize = 0;
-    while i < used {
-        halves[i] = former_half(store, records, buckets[i]);
-        i += 1;
+    let mut halves = [0; rules::MOST_BUCKETS];
+    for (i, &b) in buckets.iter().enumerate() {
+        halves[i] = former_half(store, b);
     }
     halves
 }

@@ -1,19 +1,23 @@
 -- Old outputs extended one record after the other, and one bucket after the other: the rule only appends, so the old records stand.
-use mathlib.Core.Path.{◌≡◌, refl, sym, ap, ◌∙◌, subst}
+use mathlib.Core.Path.{◌≡◌, refl, sym, ap, ap₂, ◌∙◌, subst}
 use mathlib.Core.Bool.{Bool, true, false, cond, false≢true}
-use mathlib.Core.List.{List, [], ◌∷◌, ◌++◌, map, reverse}
-use Prim.Native.Nat.{ℕ, zero, suc, ◌+◌, ◌-◌, ◌≤◌, ◌<◌}
+use mathlib.Core.List.{List, [], ◌∷◌, ◌++◌, map, reverse, reverse-cons}
+use Prim.Native.Nat.{ℕ, suc, ◌+◌, ◌≤◌, ◌<◌}
 use native.Mathlib.Omega.{arith}
 use lib.Dec.{eqb}
-use lib.ListN.{length, get_or, take, drop, length-append, drop_of_length-le}
+use lib.ListN.{length, get_or, take, drop, length-append, length-map, drop_of_length-le}
 use lib.Seq.{take-append-le, length-take-le, drop-cons, get_or-take}
 use lib.IntN.{ℤ, pos}
+use Rattle.std.specs.List.{zip}
+use Rattle.std.proofs.lemmas.List.{get_or-map}
+use Rattle.std.proofs.lemmas.Slice.Zip.{get_or-zip, length-zip}
 use borrow.Author.Tests.{eq-eqb, ne_eqb}
 use Rattle.rules.specs.Lists.{keep, in_turn}
 use Rattle.rules.specs.Records.{Record, node, output, waiting, unknown, Output, outputs, literal_word}
 use Rattle.rules.specs.Totalizer.{Arena, write, take_number}
 use Rattle.rules.specs.Refinement.{former_half, extend, extend_bucket}
 use Rattle.laws.specs.Totalizer.Defines.{extend_keeps}
+use Rattle.laws.specs.Lists.Facts.{map_append}
 use Rattle.laws.specs.Records.Places.{outputs_append}
 use Rattle.records.specs.declared.Marks.{Marks}
 use Rattle.records.specs.Readers.{is_output, output_node, output_value, output_number}
@@ -21,7 +25,6 @@ use Rattle.records.specs.Carries.{St, st, marks_of, Carries, Steps, Stores}
 use Rattle.records.proofs.Grow.{Grows}
 use Rattle.records.proofs.Read.{output_of}
 use Rattle.records.proofs.Step.{steps_none, stop, held}
-use Rattle.refine_links.proofs.Slots.{reverse_last}
 use Rattle.totalizer_define.proofs.Growth.{turns_grow, extend_grows}
 use Rattle.refine_outputs.specs.Old.{extend_each, extend_at}
 
@@ -204,66 +207,76 @@ bucket_is : (before rs : List Record) (n most : ℕ) (t : Arena) → outputs rs 
 unfolding extend_each extend_bucket
 bucket_is before rs n most t e f = rw (e, f) refl
 
-map_at : (f : ℕ → ℕ) (xs : List ℕ) (i : ℕ) → i < length xs → get_or (map f xs) i 0 ≡ f (get_or xs i 0)
-map_at f [] i h = absurd (omega arith)
-map_at f (x ∷ xs) zero h = refl
-map_at f (x ∷ xs) (suc i) h = map_at f xs i (omega arith)
+map_reverse : (f : ℕ → ℕ) (xs : List ℕ) → reverse (map f xs) ≡ map f (reverse xs)
+map_reverse f [] = refl
+map_reverse f (x ∷ xs) =
+    reverse-cons (f x) (map f xs) ∙
+    (ap (λ (t : List ℕ). t ++ (f x ∷ [])) (map_reverse f xs) ∙ (sym (map_append f (reverse xs) (x ∷ [])) ∙ ap (map f) (sym (reverse-cons x xs))))
 
--- the used slots of one array are the images of those of another
-slot_image : (f : ℕ → ℕ) (xs ys : List ℕ) (used i : ℕ) → used ≤ length xs → i < used → take used ys ≡ map f (take used xs) → get_or ys i 0 ≡ f (get_or xs i 0)
-slot_image f xs ys used i h k e =
-    sym (get_or-take used ys i 0 k) ∙
-    (ap (λ (z : List ℕ). get_or z i 0) e ∙
-    (map_at f (take used xs) i (omega (arith, length-take-le used xs h)) ∙ ap f (get_or-take used xs i 0 k)))
+-- buckets and their former halves, from the last to the first, as pairs
+abbrev pub pairs : List ℕ → List ℕ → List (ℕ × ℕ)
+pairs xs ys = zip (reverse xs) (reverse ys)
 
--- the buckets that are left, extended from here, are all of them extended
-pub record Passing (σ₀ σ : St) (old : ℕ) (xs ys : List ℕ) (used i : ℕ) : Type 0 where
+module _ (f : ℕ → ℕ) (xs ys : List ℕ) (e : ys ≡ map f xs) where
+  paired : pairs xs ys ≡ zip (reverse xs) (map f (reverse xs))
+  paired = ap (zip (reverse xs)) (ap reverse e ∙ map_reverse f xs)
+
+  images : length (map f (reverse xs)) ≡ length (reverse xs)
+  images = length-map (reverse xs) f
+
+  as_many : length (pairs xs ys) ≡ length (reverse xs)
+  as_many = omega (arith, ap length paired, length-zip (reverse xs) (map f (reverse xs)), images)
+
+  -- the bucket and half at a place
+  pair_at : (i : ℕ) (p : ℕ × ℕ) → i < length (pairs xs ys) → p ≡ get_or (pairs xs ys) i p → (p.0 ≡ get_or (reverse xs) i p.0) × (p.1 ≡ f p.0)
+  pair_at i p h q =
+      let low : i < length (reverse xs) = omega (arith, as_many) in
+      let at : p ≡ (get_or (reverse xs) i p.0, get_or (map f (reverse xs)) i p.1) =
+      q ∙ (ap (λ (z : List (ℕ × ℕ)). get_or z i p) paired ∙ get_or-zip (reverse xs) (map f (reverse xs)) i p low (omega (arith, images))) in
+      let first : p.0 ≡ get_or (reverse xs) i p.0 = ap (λ (z : ℕ × ℕ). z.0) at in
+      (first, ap (λ (z : ℕ × ℕ). z.1) at ∙ (get_or-map f (reverse xs) i p.0 p.1 low ∙ ap f (sym first)))
+
+-- after i buckets: those that are left, extended from here, are all of them extended
+pub record Passing (σ₀ σ : St) (old : ℕ) (xs ys : List ℕ) (i : ℕ) : Type 0 where
   pub at : (e : St) (t : Arena) (before : List Record) → Carries e σ₀ t → old ≤ length t.records → outputs (take old t.records) ≡ outputs before →
-      take used ys ≡ map (former_half before) (take used xs) →
+      ys ≡ map (former_half before) xs →
       (u : Arena) × Carries e σ u × Begins old (take old t.records) u ×
-      (in_turn (extend_bucket before) u (reverse (take i xs)) ≡ in_turn (extend_bucket before) t (reverse (take used xs)))
+      (in_turn (extend_bucket before) u (drop i (reverse xs)) ≡ in_turn (extend_bucket before) t (reverse xs))
 
-pub passing_start : (σ : St) (old : ℕ) (xs ys : List ℕ) (used : ℕ) → Passing σ σ old xs ys used used
-passing_start σ old xs ys used = record { at = λ e t before h i same halves. (t, h, record { first = refl; enough = i }, refl) }
+pub passing_start : (σ : St) (old : ℕ) (xs ys : List ℕ) → Passing σ σ old xs ys 0
+passing_start σ old xs ys = record { at = λ e t before h i same halves. (t, h, record { first = refl; enough = i }, refl) }
 
 -- what `extend_bucket` promises
 abbrev pub Extends : St → St → ℕ → ℕ → ℕ → Type 0
 Extends σ τ old n most = (e : St) (t : Arena) → Carries e σ t → old ≤ length t.records → Carries e τ (extend_each n most (take old t.records) t)
 
-turn : (σ₀ σ τ : St) (old : ℕ) (xs ys : List ℕ) (used i : ℕ) → used ≤ length xs → i < used → Passing σ₀ σ old xs ys used (suc i) →
-    Extends σ τ old (get_or xs i 0) (get_or ys i 0) → Passing σ₀ τ old xs ys used i
+pub passing_turn : (σ₀ σ τ : St) (old : ℕ) (xs ys : List ℕ) (i : ℕ) (p : ℕ × ℕ) → (i < length (pairs xs ys)) × (p ≡ get_or (pairs xs ys) i p) →
+    Extends σ τ old p.0 p.1 → Passing σ₀ σ old xs ys i → Passing σ₀ τ old xs ys (i + 1)
 unfolding in_turn
-turn σ₀ σ τ old xs ys used i in-xs some g p = record {
+passing_turn σ₀ σ τ old xs ys i p here step g = record {
   at = λ e t before h k same halves.
       let x = g.at e t before h k same halves in
       let u : Arena = x.0 in
-      let n : ℕ = get_or xs i 0 in
-      let most : ℕ = get_or ys i 0 in
+      let n : ℕ = p.0 in
       let rs : List Record = take old u.records in
-      let w : Arena = extend_each n most rs u in
-      let is : w ≡ extend_bucket before u n = bucket_is before rs n most u (ap outputs x.2.first ∙ same)
-      (slot_image (former_half before) xs ys used i in-xs some halves) in (
+      let w : Arena = extend_each n p.1 rs u in
+      let pair = pair_at (former_half before) xs ys halves i p here.0 here.1 in
+      let is : w ≡ extend_bucket before u n = bucket_is before rs n p.1 u (ap outputs x.2.first ∙ same) pair.1 in
+      let up : suc i ≡ i + 1 = omega arith in
+      let left : drop i (reverse xs) ≡ n ∷ drop (i + 1) (reverse xs) =
+      drop-cons (reverse xs) i n (omega (arith, as_many (former_half before) xs ys halves, here.0)) ∙ ap₂ (λ (c j : ℕ). c ∷ drop j (reverse xs)) (sym pair.0) up in (
         w,
-        p e u x.1 x.2.enough,
-        begins_each old (take old t.records) n most rs u x.2,
-        ap (λ (a : Arena). in_turn (extend_bucket before) a (reverse (take i xs))) is ∙
-            (ap (in_turn (extend_bucket before) u) (sym (reverse_last xs i (omega arith))) ∙ x.3),
+        step e u x.1 x.2.enough,
+        begins_each old (take old t.records) n p.1 rs u x.2,
+        ap (λ (a : Arena). in_turn (extend_bucket before) a (drop (i + 1) (reverse xs))) is ∙ (ap (in_turn (extend_bucket before) u) (sym left) ∙ x.3),
       );
 }
 
-pub passing_turn : (σ₀ σ τ : St) (old : ℕ) (xs ys : List ℕ) (used : ℕ) → used ≤ length xs → (i : ℕ) → 0 < i → i ≤ used → Passing σ₀ σ old xs ys used i →
-    Extends σ τ old (get_or xs (i - 1) 0) (get_or ys (i - 1) 0) → Passing σ₀ τ old xs ys used (i - 1)
-passing_turn σ₀ σ τ old xs ys used in-xs zero some low g = absurd (omega arith)
-passing_turn σ₀ σ τ old xs ys used in-xs (suc i) some low g =
-    let n : suc i - 1 ≡ i = omega arith in
-    subst (λ (j : ℕ). Extends σ τ old (get_or xs j 0) (get_or ys j 0) → Passing σ₀ τ old xs ys used j) (sym n)
-    (turn σ₀ σ τ old xs ys used i in-xs (omega arith) g)
-
-pub passing_end : (σ₀ σ : St) (old : ℕ) (xs ys : List ℕ) (used i : ℕ) → i ≤ 0 → Passing σ₀ σ old xs ys used i →
+pub passing_end : (σ₀ σ : St) (old : ℕ) (xs ys : List ℕ) (i : ℕ) → i ≡ length (pairs xs ys) → Passing σ₀ σ old xs ys i →
     (e : St) (t : Arena) (before : List Record) → Carries e σ₀ t → old ≤ length t.records → outputs (take old t.records) ≡ outputs before →
-    take used ys ≡ map (former_half before) (take used xs) → Carries e σ (in_turn (extend_bucket before) t (reverse (take used xs)))
+    ys ≡ map (former_half before) xs → Carries e σ (in_turn (extend_bucket before) t (reverse xs))
 unfolding in_turn
-passing_end σ₀ σ old xs ys used zero low g e t before h k same halves =
+passing_end σ₀ σ old xs ys i all g e t before h k same halves =
     let x = g.at e t before h k same halves in
-    subst (Carries e σ) x.3 x.1
-passing_end σ₀ σ old xs ys used (suc i) low g e t before h k same halves = absurd (omega arith)
+    let none : drop i (reverse xs) ≡ [] = drop_of_length-le (reverse xs) {i = i} (omega (arith, as_many (former_half before) xs ys halves)) in
+    subst (Carries e σ) (ap (in_turn (extend_bucket before) x.0) (sym none) ∙ x.3) x.1

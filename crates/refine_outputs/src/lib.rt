@@ -10,7 +10,7 @@ ghost use Rattle.rules.specs.Refinement.{former_half, extend_bucket};
 ghost use Rattle.records.specs.Carries.{St, st, Carries, Steps};
 ghost use Rattle.refine_outputs.specs.Old.{extend_each, extend_at};
 
-use records::Marks;
+use records::{Marks, Store};
 
 // The further clauses of record i where it is an output of the node. A find for each output asked for, two for each clause.
 fn extend_record(
@@ -23,18 +23,15 @@ fn extend_record(
 ) -> Marks
     ensures { Steps (st store.old clauses.old m) (st store.new clauses.new result) (extend_at node most i) }
 {
-    if m.full {
+    let before = Store {
+        words: store,
+        records: m.records,
+    };
+    if m.full || !before.is_output(i) || before.output_node(i) != node {
         return m;
     }
-    let n = m.records;
-    if !records::is_output(store, n, i) {
-        return m;
-    }
-    if records::output_node(store, n, i) != node {
-        return m;
-    }
-    let v = records::output_value(store, n, i);
-    let o = records::output_number(store, n, i);
+    let v = before.output_value(i);
+    let o = before.output_number(i);
     totalizer_define::extend(store, clauses, m, node, most, v, o)
 }
 
@@ -52,35 +49,29 @@ fn extend_bucket(
         Carries e (st store.new clauses.new result) (extend_each node most (take old t.records) t) }
 {
     let mut n = m;
-    let mut i: usize = 0;
-    while i < old {
+    for i in 0..old {
         n = extend_record(store, clauses, n, node, most, i);
-        i += 1;
     }
     n
 }
 
-// The further clauses of the outputs of the used buckets, from the last bucket to the first. A pass over the old records for each
+// The further clauses of the outputs of the buckets, from the last bucket to the first. A pass over the old records for each
 // bucket, at most 20.
 pub fn extend_buckets(
     store: &mut [u32],
     clauses: &mut [i32],
     m: Marks,
     old: usize,
-    buckets: [u32; rules::MOST_BUCKETS],
-    used: usize,
-    halves: [u32; rules::MOST_BUCKETS],
+    buckets: &[u32],
+    halves: &[u32],
 ) -> Marks
-    requires { used ≤ 20 }
     ensures { (e : St) (t : Arena) (before : List Record) → Carries e (st store.old clauses.old m) t → old ≤ length t.records →
-        outputs (take old t.records) ≡ outputs before → take used halves ≡ map (former_half before) (take used buckets) →
-        Carries e (st store.new clauses.new result) (in_turn (extend_bucket before) t (reverse (take used buckets))) }
+        outputs (take old t.records) ≡ outputs before → halves.now ≡ map (former_half before) buckets.now →
+        Carries e (st store.new clauses.new result) (in_turn (extend_bucket before) t (reverse buckets.now)) }
 {
     let mut n = m;
-    let mut i = used;
-    while 0 < i {
-        i -= 1;
-        n = extend_bucket(store, clauses, n, old, buckets[i], halves[i]);
+    for (&node, &most) in buckets.iter().rev().zip(halves.iter().rev()) {
+        n = extend_bucket(store, clauses, n, old, node, most);
     }
     n
 }

@@ -5,7 +5,7 @@ use mathlib.Core.List.{List, [], ◌++◌, map}
 use Prim.Native.Nat.{ℕ, zero, suc, ◌+◌, ◌*◌, ◌-◌, ◌^◌, ◌≤◌, ◌<◌}
 use native.Mathlib.Omega.{arith}
 use lib.Pow.{pow-add, pow_mono}
-use lib.ListN.{length, get_or, take, drop, replicate, length-append, length-take}
+use lib.ListN.{length, get_or, take, replicate, length-append, length-take}
 use lib.Seq.{take-append-le, take-append-add}
 use lib.IntN.{ℤ}
 use Rattle.rules.specs.declared.State.{State}
@@ -64,6 +64,10 @@ module _ (s : State) (store : List ℕ) (clauses : List ℤ) (work : List ℕ) (
   buckets_count : length b.buckets ≡ s.buckets_used
   unfolding build_of build_over buckets_of
   buckets_count = slots_count 20 s.buckets_used s.buckets g.well.laid.buckets_few g.well.laid.buckets_laid
+
+  pub used_count : length (take s.buckets_used s.buckets) ≡ s.buckets_used
+  unfolding build_of build_over buckets_of
+  used_count = buckets_count
 
   fresh_is : m.fresh ≡ b.arena.fresh
   unfolding build_of build_over marks_at
@@ -183,12 +187,12 @@ module _ (s : State) (store : List ℕ) (clauses : List ℤ) (work : List ℕ) (
       count_is = records_is;
     }
 
-    module _ (halves : List ℕ) (eh : (rs : List Record) → Stores store m.records rs → take s.buckets_used halves ≡ map (former_half rs) bs)
+    module _ (halves : List ℕ) (eh : (rs : List Record) → Stores store m.records rs → halves ≡ map (former_half rs) bs)
         (store₁ work' : List ℕ) (t : Segment)
         (tw : (c : List ℤ) → largest (line work h) < 2 ^ (top_bit s.built + spare s) →
         Makes (st store c m) (st store₁ c t.marks) (made_in work' t.used, line work' t.head)
         (tower (added s) s.set (top_bit s.set) (take (added s + spare s) tares) (members_from work 0 (top_bit s.built + spare s)) (line work h)))
-        (long : length work' ≡ length work) (few : t.used ≤ added s + spare s) (below : ℕ) (eb : below ≡ get_or (made_in work' t.used) 0 0) where
+        (long : length work' ≡ length work) (few : t.used ≤ added s + spare s) (lowers : List ℕ) (el : lowers ≡ made_in work' t.used) (below : ℕ) (eb : below ≡ get_or lowers 0 0) where
       abbrev new : List ℕ
       new = (made b f built reach).1
 
@@ -208,24 +212,24 @@ module _ (s : State) (store : List ℕ) (clauses : List ℤ) (work : List ℕ) (
           (Fits e x.0 → ◌≡◌ {A = List ℕ × List Entry} (made_in work' t.used, line work' t.head) x.1))
           reached_is ((tw clauses powers).go e b.arena begins)
 
-      ready : Renewable bs e (st store₁ clauses t.marks) m.records below (take s.buckets_used halves) b.arena.records d (after b f built reach)
+      ready : Renewable bs e (st store₁ clauses t.marks) m.records below halves b.arena.records d (after b f built reach)
       unfolding build_of build_over buckets_of
       ready = record {
         carries = towered.0;
         fits = fits_after b f built reach e;
-        right = λ x. right b f built reach x.fresh_fit m.records below d (take s.buckets_used halves) records_is
-            (eb ∙ ap (λ (y : List ℕ × List Entry). get_or y.0 0 0) (towered.1 x)) (eh b.arena.records base_stored);
+        right = λ x. right b f built reach x.fresh_fit m.records below d halves records_is
+            (eb ∙ (ap (λ (y : List ℕ). get_or y 0 0) el ∙ ap (λ (y : List ℕ × List Entry). get_or y.0 0 0) (towered.1 x))) (eh b.arena.records base_stored);
       }
 
       module _ (τ : St) (rn : (s₀ : List ℕ) (m₀ : Marks) (before : List Record) (d : ℕ) (u : Arena) →
-          Renewable bs (st s₀ clauses m₀) (st store₁ clauses t.marks) m.records below (take s.buckets_used halves) before d u →
+          Renewable bs (st s₀ clauses m₀) (st store₁ clauses t.marks) m.records below halves before d u →
           Renews bs (st s₀ clauses m₀) τ (renew before bs d u)) where
         renewed : Renews b.buckets e τ (merge_structures b).arena
         unfolding build_of build_over buckets_of
         renewed = subst (Renews bs e τ) (sym (merged_is b f built reach)) (rn store m b.arena.records d (after b f built reach) ready)
 
         module _ (marks : Marks) (buckets : List ℕ)
-            (ek : (xs : List ℕ) → length xs ≡ s.buckets_used → s.buckets ≡ padded 0 20 xs → buckets ≡ padded 0 20 (xs ++ take t.used (drop (2132 - t.used) work'))) where
+            (ek : (xs : List ℕ) → length xs ≡ s.buckets_used → s.buckets ≡ padded 0 20 xs → buckets ≡ padded 0 20 (xs ++ lowers)) where
           abbrev z : Structure
           z = record {
             marks = marks;
@@ -237,7 +241,7 @@ module _ (s : State) (store : List ℕ) (clauses : List ℤ) (work : List ℕ) (
           }
 
           named : Fits e (after b f built reach) → Named work' z (merge_structures b)
-          unfolding added build_of build_over buckets_of made_in
+          unfolding added build_of build_over buckets_of
           named x =
               let is : made_in work' t.used ≡ new = ap (λ (y : List ℕ × List Entry). y.0) (towered.1 x) in
               let count : length (made_in work' t.used) ≡ t.used = made_length work' t.used (omega (arith, few, within.1)) (omega (arith, long, g.long)) in
@@ -247,7 +251,7 @@ module _ (s : State) (store : List ℕ) (clauses : List ℤ) (work : List ℕ) (
                   tares_many = omega (arith, ap length (merged_tares b f built reach), length-append fresh b.tares, rising_length (added s) b.arena.fresh, tares_count, em);
                   buckets_are =
                       ek bs buckets_count (sym g.well.laid.buckets_laid) ∙
-                      (ap (λ (xs : List ℕ). padded 0 20 (bs ++ xs)) is ∙ ap (padded 0 20) (sym (merged_buckets b f built reach)));
+                      (ap (λ (xs : List ℕ). padded 0 20 (bs ++ xs)) (el ∙ is) ∙ ap (padded 0 20) (sym (merged_buckets b f built reach)));
                   buckets_many = omega (arith, ap length (merged_buckets b f built reach), length-append b.buckets new, ap length is, count, buckets_count);
                 };
                 queue_is = ap (λ (y : List ℕ × List Entry). y.1) (towered.1 x) ∙ sym (merged_queue b f built reach);

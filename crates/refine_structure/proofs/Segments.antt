@@ -6,8 +6,12 @@ use mathlib.Core.List.{List, [], ◌∷◌, ◌++◌, map, reverse}
 use Prim.Native.Nat.{ℕ, ◌+◌, ◌-◌, ◌^◌, ◌≤◌, ◌<◌}
 use native.Mathlib.Omega.{arith}
 use lib.Dec.{eqb}
+use Rattle.std.specs.Prelude.{Option}
+use Rattle.std.specs.List.{slice_get}
+use Rattle.std.specs.Option.{unwrap_or}
+use Rattle.std.proofs.lemmas.Option.{unwrap_or-slice_get}
 use lib.ListN.{length, get_or, take, drop, replicate, length-replicate, replicate-append-replicate}
-use lib.Seq.{drop-append-le, take-append_seam, get_or-take, get_or-drop}
+use lib.Seq.{drop-append-le, take-append_seam}
 use borrow.Author.Tests.{eqb-true, eqb-false}
 use Rattle.rules.specs.Lists.{sort, in_turn}
 use Rattle.rules.specs.Records.{Node, Entry, Record, node, node_at, outputs}
@@ -27,7 +31,6 @@ use Rattle.laws.specs.Buckets.Towers.{Tower}
 use Rattle.preserve.specs.Given.{set_positive, waiting_below, buckets_there, buckets_inside}
 use Rattle.preserve.specs.Gathered.{Gathered, begun, gathered_made}
 use Rattle.preserve.specs.Refinement.{p, end, k, q, wait, mss, new_tares, built_tower}
-use Rattle.records_words.specs.Words.{word_at}
 use Rattle.records.specs.Carries.{St, written, Fits, with_records}
 use Rattle.records.proofs.Grow.{fits_less}
 use Rattle.records.proofs.Small.{peak_sound}
@@ -38,16 +41,13 @@ use Rattle.refine_links.proofs.Renewing.{relink_length}
 use Rattle.refine_outputs.proofs.Extending.{buckets_grow}
 use Rattle.refine_structure.specs.Refined.{renew, Right}
 
--- the first of the buckets made
-pub highest_none : (ws : List ℕ) (used : ℕ) → used ≡ 0 → 0 ≡ get_or (made_in ws used) 0 0
+-- the buckets made as a slice, and the first of them
+pub made_slice : (ws : List ℕ) (used : ℕ) → used ≤ 2132 → take (2132 - (2132 - used)) (drop (2132 - used) ws) ≡ made_in ws used
 unfolding made_in
-highest_none ws used e = rw e refl
+made_slice ws used h = let n : 2132 - (2132 - used) ≡ used = omega arith in rw n refl
 
-pub highest_is : (ws : List ℕ) (used x : ℕ) → used ≢ 0 → x ≡ word_at ws (2132 - used) → x ≡ get_or (made_in ws used) 0 0
-unfolding made_in word_at
-highest_is ws used x some e =
-    let n : 2132 - used + 0 ≡ 2132 - used = omega arith in
-    e ∙ sym (get_or-take used (drop (2132 - used) ws) 0 0 (omega arith) ∙ (get_or-drop (2132 - used) ws 0 0 ∙ ap (λ (i : ℕ). get_or ws i 0) n))
+pub first_made : (xs : List ℕ) (o : Option ℕ) (x : ℕ) → o ≡ slice_get xs 0 → x ≡ unwrap_or o 0 → x ≡ get_or xs 0 0
+first_made xs o x eo ex = ex ∙ (ap (λ (p : Option ℕ). unwrap_or p 0) eo ∙ unwrap_or-slice_get xs 0 0)
 
 -- no bucket of a chain stands twice
 pub chain_once : (at : ℕ → Node) (pl : ℕ → Bool) → Sound at pl → (w : Bool) (bs : List ℕ) → Linked at w bs → (n : ℕ) → occurs n bs ≤ 1

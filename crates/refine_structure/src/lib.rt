@@ -1,7 +1,7 @@
 // Refinement: new lower buckets, the old ones linked over them in place, and the outputs that were defined earlier extended.
 #![tactic(auto)]
 
-ghost use Rattle.std.specs.Prelude.{◌≡◌, List, ◌++◌, ℕ, ◌+◌, ◌^◌, ◌≤◌, ◌<◌, length, get_or, take, ℤ};
+ghost use Rattle.std.specs.Prelude.{◌≡◌, List, ◌++◌, ℕ, ◌+◌, ◌^◌, ◌≤◌, ◌<◌, length, take, ℤ};
 ghost use Rattle.rules.specs.Lists.{rising, padded};
 ghost use Rattle.rules.specs.Digits.{top_bit};
 ghost use Rattle.rules.specs.Records.{Record};
@@ -17,58 +17,40 @@ ghost use Rattle.refine_structure.specs.Refined.{added, spare, Spans, renew, Ren
 
 use build_begin::Structure;
 use build_tower::{Plan, Segment};
-use records::Marks;
+use records::{Marks, Store};
 use rules::State;
 
 // Tares with the numbers from a first one on, below those of a state. A turn a tare.
-fn new_tares(
-    first: u32,
-    many: usize,
-    old: [u32; rules::MOST_TARES],
-    used: usize,
-) -> [u32; rules::MOST_TARES]
-    requires { (many + used ≤ 19) × (first + many < 4294967296) }
-    ensures { result ≡ padded 0 19 (rising many first ++ take used old) }
+fn new_tares(first: u32, many: usize, old: &[u32]) -> [u32; rules::MOST_TARES]
+    requires { (many + length old.now ≤ 19) × (first + many < 4294967296) }
+    ensures { result ≡ padded 0 19 (rising many first ++ old.now) }
 {
     let fresh = build_arrays::fresh_tares(first, many);
-    build_arrays::append_tares(fresh, many, old, used)
+    build_arrays::append(fresh, many, old)
 }
 
-// The highest of the buckets made, 0 where there is none. Constant time.
-fn highest(work: &[u32], used: usize) -> u32
-    requires { used ≤ 20 }
-    ensures { result ≡ get_or (made_in work.now used) 0 0 }
-{
-    if used == 0 {
-        return 0;
-    }
-    records_words::word(work, build_line::MADE_END - used)
-}
-
-// The used buckets linked anew in place, the last to `below`, and their outputs among the old records extended. A pass over the
-// old records for each bucket, and the defines of the further clauses.
+// The buckets linked anew in place, the last to `below`, and their outputs among the old records extended. A pass over the old
+// records for each bucket, and the defines of the further clauses.
 fn renew(
     store: &mut [u32],
     clauses: &mut [i32],
     m: Marks,
     old: usize,
-    buckets: [u32; rules::MOST_BUCKETS],
-    used: usize,
+    buckets: &[u32],
     below: u32,
-    halves: [u32; rules::MOST_BUCKETS],
+    halves: &[u32],
 ) -> Marks
-    requires { used ≤ 20 }
     ensures { (s₀ : List ℕ) (m₀ : Marks) (before : List Record) (d : ℕ) (t : Arena) →
-        Renewable (take used buckets) (st s₀ clauses.old m₀) (st store.old clauses.old m) old below (take used halves) before d t →
-        Renews (take used buckets) (st s₀ clauses.old m₀) (st store.new clauses.new result) (renew before (take used buckets) d t) }
+        Renewable buckets.now (st s₀ clauses.old m₀) (st store.old clauses.old m) old below halves.now before d t →
+        Renews buckets.now (st s₀ clauses.old m₀) (st store.new clauses.new result) (renew before buckets.now d t) }
 {
     if m.full {
         return m;
     }
-    if !refine_links::relink(store, m.records, buckets, used, below) {
+    if !refine_links::relink(store, m.records, buckets, below) {
         return records::full(m);
     }
-    refine_outputs::extend_buckets(store, clauses, m, old, buckets, used, halves)
+    refine_outputs::extend_buckets(store, clauses, m, old, buckets, halves)
 }
 
 // The tower of the powers that a refinement adds, and of the tares that have no bucket. As the queue and the buckets grow.
@@ -78,22 +60,21 @@ fn segment(
     work: &mut [u32],
     m: Marks,
     h: usize,
-    tares: [u32; rules::MOST_TARES],
+    tares: &[u32],
 ) -> Segment
-    requires { Queued work.old h × (1 ≤ s.set) × Spans s × (m.fresh + added s ≤ 1000000001 → All (λ t. t < 2147483648) tares) }
+    requires { Queued work.old h × (1 ≤ s.set) × Spans s × (19 ≤ length tares.now) × (m.fresh + added s ≤ 1000000001 → All (λ t. t < 2147483648) tares.now) }
     ensures { ((c : List ℤ) → largest (line work.old h) < 2 ^ (top_bit s.built + spare s) →
         Makes (st store.old c m) (st store.new c result.marks) (made_in work.new result.used, line work.new result.head)
-        (tower (added s) s.set (top_bit s.set) (take (added s + spare s) tares) (members_from work.old 0 (top_bit s.built + spare s)) (line work.old h))) ×
+        (tower (added s) s.set (top_bit s.set) (take (added s + spare s) tares.now) (members_from work.old 0 (top_bit s.built + spare s)) (line work.old h))) ×
         (length work.new ≡ length work.old) × (result.used ≤ added s + spare s) × (result.head ≤ 512) }
 {
     let p = numbers::top_bit(s.set) as usize;
     let end = numbers::top_bit(s.built) as usize;
     let many = end - p;
-    let own = (s.tares_used as usize) + 1 - (s.buckets_used as usize);
+    let own = s.tares_used as usize + 1 - s.buckets_used as usize;
     let plan = Plan {
         divisor: s.set,
-        tares,
-        many: many + own,
+        tares: &tares[..many + own],
         low: p,
         end: end + own,
         taken: many as u32,
@@ -115,29 +96,25 @@ pub fn merge_structures(
     ensures { Refines (build_of s store.old) (st store.old clauses.old m) (st store.new clauses.new result.marks) work.new result × (length work.new ≡ length work.old) × (result.head ≤ 512) × (result.tares_used ≤ 19) × (result.buckets_used ≤ 20) }
 {
     let many = numbers::top_bit(s.built) - numbers::top_bit(s.set);
-    let old = s.tares;
-    let tares = new_tares(m.fresh, many as usize, old, s.tares_used as usize);
-    let above = s.buckets;
+    let tares = new_tares(m.fresh, many as usize, &s.tares[..s.tares_used as usize]);
     let used = s.buckets_used as usize;
-    let halves = refine_links::former_halves(store, m.records, above, used);
-    let t = segment(s, store, work, m, h, tares);
-    let below = highest(work, t.used);
-    let marks = renew(
-        store, clauses, t.marks, m.records, above, used, below, halves,
-    );
-    let buckets = build_arrays::append_buckets(
-        above,
-        used,
-        work,
-        build_line::MADE_END - t.used,
-        t.used,
-    );
+    let above = &s.buckets[..used];
+    let old = Store {
+        words: store,
+        records: m.records,
+    };
+    let halves = refine_links::former_halves(old, above);
+    let t = segment(s, store, work, m, h, &tares);
+    let made = &work[build_line::MADE_END - t.used..build_line::MADE_END];
+    let below = made.first().copied().unwrap_or(0);
+    let halves = &halves[..used];
+    let marks = renew(store, clauses, t.marks, m.records, above, below, halves);
     Structure {
         marks,
         head: t.head,
         tares,
         tares_used: s.tares_used + many,
-        buckets,
-        buckets_used: s.buckets_used + (t.used as u32),
+        buckets: build_arrays::append(s.buckets, used, made),
+        buckets_used: s.buckets_used + t.used as u32,
     }
 }

@@ -1,6 +1,7 @@
 -- Cases of document 02's asks, computed over the public calls: what each changed, and what it left.
-use Rattle.std.specs.Prelude.{◌≡◌, refl, List, [], ◌∷◌, ◌++◌, map, ℕ, ◌*◌, replicate, ℤ, pos}
-use Rattle.rules.specs.Refusals.{answer_number, precision_value}
+use Rattle.std.specs.Prelude.{◌≡◌, refl, List, [], ◌∷◌, ◌++◌, map, ℕ, ◌*◌, replicate, ℤ, pos, Ok, Err}
+use Rattle.rules.specs.declared.Refusal.TheVariants.{WeightUnlawful}
+use Rattle.rules.specs.Refusals.{answer_number, answer_value}
 use Rattle.rules.specs.Combined.{combined_literals, combined_weights}
 use Rattle.rules.specs.Start.{checked, list_of}
 use Rattle.rules.specs.Precision.{next_precision}
@@ -22,11 +23,11 @@ unfolding listed neg
 negated = refl
 
 -- what the check hands back: the combined list, and none where a weight is refused
-handed_back : checked (neg 3 ∷ pos 2 ∷ neg 3 ∷ []) (1 ∷ 2 ∷ 2 ∷ []) ≡ list_of 0 (neg 3 ∷ pos 2 ∷ []) (3 ∷ 2 ∷ [])
+handed_back : checked (neg 3 ∷ pos 2 ∷ neg 3 ∷ []) (1 ∷ 2 ∷ 2 ∷ []) ≡ Ok (list_of (neg 3 ∷ pos 2 ∷ []) (3 ∷ 2 ∷ []))
 unfolding checked neg
 handed_back = refl
 
-handed_nothing : checked (pos 3 ∷ pos 3 ∷ []) (1048575 ∷ 1 ∷ []) ≡ list_of 4 [] []
+handed_nothing : checked (pos 3 ∷ pos 3 ∷ []) (1048575 ∷ 1 ∷ []) ≡ Err WeightUnlawful
 unfolding checked
 handed_nothing = refl
 
@@ -84,10 +85,10 @@ heavy_lines = refl
 
 -- Ask 7: the divisor that a start leaves, and what next_precision answers then
 first_divisor : List ℤ → List ℕ → ℕ × ℕ
-unfolding started next_precision precision_value
+unfolding started next_precision answer_value
 first_divisor lits weights =
     let a : Lent = started lits weights 9 160 0 in
-    (a.state.set, precision_value (next_precision a.state a.store a.clauses))
+    (a.state.set, answer_value 0 (next_precision a.state a.store a.clauses))
 
 -- the top power of the largest weight, which is combined; 1 when there are no inputs
 first_divisors :

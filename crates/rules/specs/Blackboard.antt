@@ -3,7 +3,7 @@ use Rattle.std.specs.Prelude.{◌≡◌, refl, Bool, true, false, not, ◌||◌,
 use Rattle.rules.specs.declared.State.{State}
 use Rattle.rules.specs.declared.Set.{Set}
 use Rattle.rules.specs.Lists.{any, keep, rising}
-use Rattle.rules.specs.Refusals.{answer_number, coarse_value}
+use Rattle.rules.specs.Refusals.{answer_number, answer_value}
 use Rattle.rules.specs.Digits.{digits}
 use Rattle.rules.specs.Records.{literal_word, leaf, join, dummy, Node, nodes}
 use Rattle.rules.specs.Build.{clause_words, held, build_of, output_weight, root_node}
@@ -63,8 +63,8 @@ enforced a u =
     (e.refusal, e.answer)
 
 unfoldable pub coarsened : Lent → ℕ → ℕ
-unfolding coarse_ub coarse_value
-coarsened a u = coarse_value (coarse_ub a.state a.store a.clauses u)
+unfolding coarse_ub answer_value
+coarsened a u = answer_value 0 (coarse_ub a.state a.store a.clauses u)
 
 -- the used clause words
 unfoldable pub used : Lent → List ℤ

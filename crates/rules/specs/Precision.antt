@@ -1,11 +1,9 @@
 -- Set precision, next precision, maximum precision. They write nothing.
-use Rattle.std.specs.Prelude.{Bool, true, false, not, ◌&&◌, List, [], ◌∷◌, ℕ, zero, suc, ◌^◌, ltb, ℤ}
+use Rattle.std.specs.Prelude.{Bool, true, false, not, ◌&&◌, List, [], ◌∷◌, ℕ, zero, suc, ◌^◌, ltb, ℤ, Result, Ok, Err}
 use Rattle.rules.specs.declared.State.{State}
 use Rattle.rules.specs.declared.Set.{Set}
-use Rattle.rules.specs.declared.Precision.{Precision}
-use Rattle.rules.specs.declared.Precision.TheVariants.{Divisor, Refused as Refused-precision}
-use Rattle.rules.specs.declared.Maximum.{Maximum}
-use Rattle.rules.specs.declared.Maximum.TheVariants.{Yes, No, Refused as Refused-maximum}
+use Rattle.rules.specs.declared.Refusal.{Refusal}
+use Rattle.rules.specs.declared.Refusal.TheVariants.{NotWellFormed}
 use Rattle.rules.specs.Numbers.{divisor_of}
 use Rattle.rules.specs.Digits.{top_bit}
 use Rattle.rules.specs.Refusals.{first_true, divisor_unlawful, answer_of}
@@ -55,19 +53,19 @@ unfolding set_refusal set_end
 set_precision s store clauses divisor = set_end (set_refusal s store clauses divisor) s divisor
 
 -- next precision: the top power of the largest waiting weight, else 1
-unfoldable pub next_precision : State → List ℕ → List ℤ → Precision
+unfoldable pub next_precision : State → List ℕ → List ℤ → Result ℕ Refusal
 unfolding well_formed top_bit largest build_of
 next_precision s store clauses =
     elim (well_formed s store clauses) [
-      | true ↦ Divisor (2 ^ top_bit (largest (build_of s store).queue))
-      | false ↦ Refused-precision 12
+      | true ↦ Ok (2 ^ top_bit (largest (build_of s store).queue))
+      | false ↦ Err NotWellFormed
     ]
 
 -- maximum precision: nothing waits
-unfoldable pub is_max_precision : State → List ℕ → List ℤ → Maximum
+unfoldable pub is_max_precision : State → List ℕ → List ℤ → Result Bool Refusal
 unfolding well_formed some_wait build_of
 is_max_precision s store clauses =
     elim (well_formed s store clauses) [
-      | true ↦ elim (some_wait (build_of s store).queue) [ true ↦ No | false ↦ Yes ]
-      | false ↦ Refused-maximum 12
+      | true ↦ elim (some_wait (build_of s store).queue) [ true ↦ Ok false | false ↦ Ok true ]
+      | false ↦ Err NotWellFormed
     ]

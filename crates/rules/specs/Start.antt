@@ -1,14 +1,15 @@
 -- Start: what it refuses, the build it makes, and what each lent word holds afterwards.
-use Rattle.std.specs.Prelude.{Bool, ℕ, zero, suc, ◌*◌, ◌^◌, max, ltb, length, replicate, ℤ, pos}
+use Rattle.std.specs.Prelude.{Bool, ℕ, zero, suc, ◌*◌, ◌^◌, max, ltb, length, replicate, ℤ, pos, Result, Ok, Err}
 use mathlib.Core.List.{List, [], ◌∷◌, map, zip_with}
 use Rattle.rules.specs.declared.State.{State}
 use Rattle.rules.specs.declared.Started.{Started}
 use Rattle.rules.specs.declared.Combined.{Combined}
+use Rattle.rules.specs.declared.Refusal.{Refusal}
 use Rattle.rules.specs.Lists.{total, rising, padded}
 use Rattle.rules.specs.Numbers.{most_inputs, most_tares, most_buckets, capacity}
 use Rattle.rules.specs.Digits.{top_bit}
 use Rattle.rules.specs.Combined.{combined_literals, combined_weights}
-use Rattle.rules.specs.Refusals.{first_true, lists_differ, literal_unlawful, weight_unlawful, fresh_unlawful, answer_of}
+use Rattle.rules.specs.Refusals.{refusal_of, first_true, lists_differ, literal_unlawful, weight_unlawful, fresh_unlawful, answer_of}
 use Rattle.rules.specs.Records.{node, image_of, leaf_node, literal_word}
 use Rattle.rules.specs.Build.{Build, records, state_of}
 
@@ -17,23 +18,22 @@ unfoldable pub list_refusal : List ℤ → List ℕ → ℕ
 unfolding first_true lists_differ literal_unlawful weight_unlawful
 list_refusal lits weights = first_true ((1, lists_differ lits weights) ∷ (2, literal_unlawful lits) ∷ (4, weight_unlawful lits weights) ∷ [])
 
--- a list in arrays of 256, zeros behind it, beside the refusal of its check
-unfoldable pub list_of : ℕ → List ℤ → List ℕ → Combined
+-- a list in arrays of 256, zeros behind it
+unfoldable pub list_of : List ℤ → List ℕ → Combined
 unfolding padded literal_word
-list_of n lits weights = record {
-  refusal = n;
+list_of lits weights = record {
   literals = padded 0 most_inputs (map literal_word lits);
   weights = padded 0 most_inputs weights;
   used = length lits;
 }
 
 -- the check of a list hands back the combined list, and none where it is refused
-unfoldable pub checked_end : ℕ → List ℤ → List ℕ → Combined
-unfolding list_of
-checked_end zero lits weights = list_of 0 lits weights
-checked_end (suc n) lits weights = list_of (suc n) [] []
+unfoldable pub checked_end : ℕ → List ℤ → List ℕ → Result Combined Refusal
+unfolding list_of refusal_of
+checked_end zero lits weights = Ok (list_of lits weights)
+checked_end (suc n) lits weights = Err (refusal_of (suc n))
 
-unfoldable pub checked : List ℤ → List ℕ → Combined
+unfoldable pub checked : List ℤ → List ℕ → Result Combined Refusal
 unfolding list_refusal checked_end combined_literals combined_weights
 checked lits weights = checked_end (list_refusal lits weights) (combined_literals lits) (combined_weights lits weights)
 

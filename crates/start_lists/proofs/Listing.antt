@@ -5,7 +5,7 @@ use mathlib.Core.List.{List, [], ◌∷◌, ◌++◌, map, append_assoc}
 use Prim.Native.Nat.{ℕ, zero, suc, ◌+◌, ◌*◌, ◌-◌, ◌≤◌, ◌<◌}
 use native.Mathlib.Omega.{arith}
 use lib.Dec.{eqb, leb}
-use lib.ListN.{length, get_or, take, drop, set, replicate, length-append, length-map, length-replicate}
+use lib.ListN.{length, get_or, take, drop, set, replicate, length-append, length-map}
 use lib.Seq.{take-suc, take_all, take_at, drop-cons, set-append_seam}
 use lib.IntN.{ℤ}
 use borrow.Author.Tests.{leb-true, eq-eqb, ne_eqb}
@@ -18,7 +18,7 @@ use Rattle.laws.specs.Records.Words.{both}
 use Rattle.laws.specs.Lists.Facts.{map_append}
 use Rattle.numbers.specs.Signed.{signed_at, word_or_none}
 use Rattle.start_lists.specs.Literals.{words}
-use Rattle.start_lists.specs.Lines.{Lines, Listed, line_weight, named_word, joined_word, combined_words}
+use Rattle.start_lists.specs.Lines.{Lines, Listed, named_word, joined_word, combined_words}
 use Rattle.start_lists.proofs.Walk.{word_there}
 use Rattle.start_lists.proofs.Order.{lawful_words}
 
@@ -58,14 +58,14 @@ module _ (lits : List ℤ) (weights : List ℕ) (h : all lawful lits ≡ true) w
 
   module _ (literals added : List ℕ) (used : ℕ) (l : Listed (combined_words (words lits)) (words lits) weights literals added used) where
     -- what the slices list is the combined list
-    pub listed_list : record { refusal = 0; literals = literals; weights = added; used = used } ≡ list_of 0 (combined_literals lits) (combined_weights lits weights)
+    pub listed_list : record { literals = literals; weights = added; used = used } ≡ list_of (combined_literals lits) (combined_weights lits weights)
     unfolding list_of
     listed_list =
         let a : literals ≡ padded 0 256 (map literal_word (combined_literals lits)) = l.literals_are ∙ ap (padded 0 256) words_combined in
         let b : added ≡ padded 0 256 (combined_weights lits weights) = l.added_are ∙ ap (padded 0 256) weights_combined in
         let c : used ≡ length (combined_literals lits) = l.used_is ∙ (ap length words_combined ∙ length-map (combined_literals lits) literal_word) in
-        ap₂ (λ (x y : List ℕ). record { refusal = 0; literals = x; weights = y; used = used }) a b ∙
-        ap (λ (n : ℕ). record { refusal = 0; literals = padded 0 256 (map literal_word (combined_literals lits)); weights = padded 0 256 (combined_weights lits weights); used = n }) c
+        ap₂ (λ (x y : List ℕ). record { literals = x; weights = y; used = used }) a b ∙
+        ap (λ (n : ℕ). record { literals = padded 0 256 (map literal_word (combined_literals lits)); weights = padded 0 256 (combined_weights lits weights); used = n }) c
 
     -- and its weights are tested with the zeros behind them
     pub listed_heavy : (b : Bool) → b ≡ not (all (λ w. leb w 1048575) added) → not (all (λ w. leb w 1048575) (combined_weights lits weights)) ≡ b
@@ -90,10 +90,6 @@ grown xs x h =
     ap (λ (n : ℕ). set (xs ++ replicate n 0) (length xs) x) more ∙
     (set-append_seam xs 0 (replicate (256 - length (xs ++ (x ∷ []))) 0) x ∙ sym (append_assoc xs (x ∷ []) (replicate (256 - length (xs ++ (x ∷ []))) 0)))
 
-inside : (xs : List ℕ) → length xs < length (padded 0 256 xs) → length xs < 256
-unfolding padded
-inside xs h = omega (arith, length-append xs (replicate (256 - length xs) 0), length-replicate {A = ℕ} (256 - length xs) 0)
-
 front : (xs literals : List ℕ) (used : ℕ) → literals ≡ padded 0 256 xs → used ≡ length xs → take used literals ≡ xs
 unfolding padded
 front xs literals used p q = ap (take used) p ∙ take_at xs (replicate (256 - length xs) 0) used (sym q)
@@ -111,13 +107,13 @@ module _ (xs ws weights literals added : List ℕ) (used v w : ℕ) (l : Listed 
       }
 
   -- it does not: it is put behind the others
-  pub join_one : (n : ℕ) → among (take used literals) w ≡ false → used < length literals → n ≡ named_word ws weights w →
+  pub join_one : (n : ℕ) → among (take used literals) w ≡ false → used < 256 → n ≡ named_word ws weights w →
       Listed (joined_word xs v) ws weights (set literals used w) (set added used n) (used + 1)
   unfolding joined_word
   join_one n e h p =
       let same : joined_word xs v ≡ xs ++ (w ∷ []) =
       ap (λ (b : Bool). cond b xs (xs ++ (v ∷ []))) (ap₂ among (sym (front xs literals used l.literals_are l.used_is)) (sym is) ∙ e) ∙ ap (λ (k : ℕ). xs ++ (k ∷ [])) (sym is) in
-      let few : length xs < 256 = inside xs (omega (arith, l.used_is, ap length l.literals_are)) in
+      let few : length xs < 256 = omega (arith, l.used_is) in
       let f : ℕ → ℕ = named_word ws weights in
       let count : used ≡ length (map f xs) = l.used_is ∙ sym (length-map xs f) in
       record {
@@ -156,10 +152,14 @@ pub listed_none : (ws weights literals added : List ℕ) → literals ≡ replic
 unfolding combined_words in_turn padded
 listed_none ws weights literals added p q = record { literals_are = p; added_are = q; used_is = refl }
 
+-- the weight of line i where it names w
+abbrev pub line_weight : List ℕ → List ℕ → ℕ → ℕ → ℕ
+line_weight ws weights i w = cond (eqb w (get_or ws i 0)) (get_or weights i 0) 0
+
 -- the weights of a literal's lines, line by line
 pub named_here : (ws weights : List ℕ) (i w : ℕ) → i < length ws → i < length weights →
     named_word (drop i ws) (drop i weights) w ≡ line_weight ws weights i w + named_word (drop (i + 1) ws) (drop (i + 1) weights) w
-unfolding named_word line_weight
+unfolding named_word
 named_here ws weights i w h k =
     let up : suc i ≡ i + 1 = omega arith in
     ap₂ (λ (xs ns : List ℕ). named_word xs ns w) (drop-cons ws i 0 h) (drop-cons weights i 0 k) ∙
@@ -193,11 +193,9 @@ named_few lits weights w l = omega (arith, named_small (words lits) weights w l.
 
 -- the word of a line
 pub line_there : (lits : List ℤ) (weights : List ℕ) (i w v : ℕ) → v ≡ word_or_none (signed_at lits i) → v ≡ w → get_or weights i 0 ≡ line_weight (words lits) weights i w
-unfolding line_weight
 line_there lits weights i w v p q =
     sym (ap (λ (b : Bool). cond b (get_or weights i 0) 0) (eq-eqb w (get_or (words lits) i 0) (sym (word_there lits i ∙ (sym p ∙ q)))))
 
 pub line_other : (lits : List ℤ) (weights : List ℕ) (i w v : ℕ) → v ≡ word_or_none (signed_at lits i) → (v ≡ w → ⊥) → 0 ≡ line_weight (words lits) weights i w
-unfolding line_weight
 line_other lits weights i w v p q =
     sym (ap (λ (b : Bool). cond b (get_or weights i 0) 0) (ne_eqb w (get_or (words lits) i 0) (λ e. q (p ∙ (sym (word_there lits i) ∙ sym e)))))

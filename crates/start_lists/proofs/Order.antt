@@ -4,16 +4,19 @@ use mathlib.Core.Bool.{Bool, true, false, not, cond, ◌&&◌, ◌||◌}
 use mathlib.Core.List.{List, [], ◌∷◌, map}
 use Prim.Native.Nat.{ℕ, zero, suc, ◌*◌, ◌/◌, ◌≤◌, ◌<◌, min}
 use native.Mathlib.Omega.{arith}
-use borrow.Author.Tests.{eq-eqb, ne_eqb, lt-ltb, le-ltb, le-leb, lt-leb, eqb-true, ltb-false}
+use borrow.Author.Tests.{eq-eqb, ne_eqb, lt-ltb, le-ltb, eqb-true, ltb-false}
 use lib.Dec.{eqb, ltb, leb}
 use lib.ListN.{length}
 use lib.IntN.{ℤ, nat_abs}
+use Rattle.std.specs.Prelude.{Result, Ok, Err}
 use Rattle.rules.specs.declared.Combined.{Combined}
+use Rattle.rules.specs.declared.Refusal.{Refusal}
+use Rattle.rules.specs.declared.Refusal.TheVariants.{ListsDiffer, LiteralUnlawful, WeightUnlawful, FreshUnlawful, NoRoom}
 use Rattle.rules.specs.Lists.{all}
 use Rattle.rules.specs.Numbers.{lawful, lawful_weight, capacity}
 use Rattle.rules.specs.Records.{literal_word, word_literal}
 use Rattle.rules.specs.Combined.{combined_literals, combined_weights}
-use Rattle.rules.specs.Refusals.{first_true, lists_differ, literal_unlawful, weight_unlawful, fresh_unlawful}
+use Rattle.rules.specs.Refusals.{first_true, lists_differ, literal_unlawful, weight_unlawful, fresh_unlawful, answer_of, refusal_of, refusals}
 use Rattle.rules.specs.Start.{list_refusal, list_of, checked_end, checked, start_no_room, start_refusal}
 use Rattle.laws.specs.Combined.{combined_few}
 use Rattle.laws.specs.Lists.Facts.{not_not, neither}
@@ -64,42 +67,8 @@ below_no w x y first p q v e h = ap (Below first) (p ∙ sym q) ∙ (ap (λ (n :
 pub below_yes : (w x y first : ℕ) → w ≡ x → y ≡ x → (v : ℕ) → v ≡ nat_abs (word_literal y) → v < first → Below first w ≡ true
 below_yes w x y first p q v e h = ap (Below first) (p ∙ sym q) ∙ (ap (λ (n : ℕ). ltb n first) (sym e) ∙ lt-ltb v first h)
 
--- 4, in two tests
-pub weight_none : (w : ℕ) → w ≡ 0 → lawful_weight w ≡ false
-unfolding lawful_weight
-weight_none w h = ap (λ (b : Bool). b && leb w 1048575) (lt-leb 1 w (omega arith))
-
-pub weight_large : (w : ℕ) → 1048575 < w → lawful_weight w ≡ false
-unfolding lawful_weight
-weight_large w h = ap₂ (λ (a b : Bool). a && b) (le-leb 1 w (omega arith)) (lt-leb w 1048575 h)
-
-pub weight_right : (w : ℕ) → (w ≡ 0 → ⊥) → w ≤ 1048575 → lawful_weight w ≡ true
-unfolding lawful_weight
-weight_right w z h = ap₂ (λ (a b : Bool). a && b) (le-leb 1 w (omega arith)) (le-leb w 1048575 h)
-
--- 1, in two tests
-pub lengths_differ : (lits : List ℤ) (weights : List ℕ) → (length lits ≡ length weights → ⊥) → true ≡ lists_differ lits weights
-unfolding lists_differ
-lengths_differ lits weights h = sym (ap (λ (b : Bool). not b || ltb 256 (length lits)) (ne_eqb _ _ h))
-
-pub lengths_same : (lits : List ℤ) (weights : List ℕ) → length lits ≡ length weights → ltb 256 (length lits) ≡ lists_differ lits weights
-unfolding lists_differ
-lengths_same lits weights h = sym (ap (λ (b : Bool). not b || ltb 256 (length lits)) (eq-eqb _ _ h))
-
 -- the lines one by one
 module _ (lits : List ℤ) (weights : List ℕ) where
-  pub lines_1 : lists_differ lits weights ≡ true → 1 ≡ lines_refusal lits weights
-  unfolding lines_refusal first_true
-  lines_1 a = sym (ap (λ (x : Bool). cond x 1 (cond (literal_unlawful lits) 2 (cond (not (all lawful_weight weights)) 4 0))) a)
-
-  pub lines_2 : lists_differ lits weights ≡ false → literal_unlawful lits ≡ true → 2 ≡ lines_refusal lits weights
-  unfolding lines_refusal first_true
-  lines_2 a b = sym (ap₂ (λ (x y : Bool). cond x 1 (cond y 2 (cond (not (all lawful_weight weights)) 4 0))) a b)
-
-  pub lines_rest : (c : Bool) (n : ℕ) → lists_differ lits weights ≡ false → literal_unlawful lits ≡ false → not (all lawful_weight weights) ≡ c → n ≡ cond c 4 0 → n ≡ lines_refusal lits weights
-  unfolding lines_refusal first_true
-  lines_rest c n a b e p = p ∙ sym (ap₂ (λ (x y : Bool). cond x 1 (cond y 2 (cond (not (all lawful_weight weights)) 4 0))) a b ∙ ap (λ (z : Bool). cond z 4 0) e)
-
   -- lines that are refused one by one are a refused list
   pub lines_list : (n : ℕ) → n ≡ lines_refusal lits weights → (n ≡ 0 → ⊥) → list_refusal lits weights ≡ n
   unfolding lines_refusal list_refusal first_true weight_unlawful
@@ -111,15 +80,55 @@ module _ (lits : List ℤ) (weights : List ℕ) where
       go false false false d e = sym e
       go false false true d e = absurd (z e)
 
+  -- so is the answer of the lines
+  pub lines_1 : lists_differ lits weights ≡ true → Err ListsDiffer ≡ answer_of (lines_refusal lits weights)
+  unfolding lines_refusal first_true answer_of refusal_of refusals
+  lines_1 a = sym (ap (λ (x : Bool). answer_of (cond x 1 (cond (literal_unlawful lits) 2 (cond (not (all lawful_weight weights)) 4 0)))) a)
+
+  pub lines_2 : lists_differ lits weights ≡ false → literal_unlawful lits ≡ true → Err LiteralUnlawful ≡ answer_of (lines_refusal lits weights)
+  unfolding lines_refusal first_true answer_of refusal_of refusals
+  lines_2 a b = sym (ap₂ (λ (x y : Bool). answer_of (cond x 1 (cond y 2 (cond (not (all lawful_weight weights)) 4 0)))) a b)
+
+  lines_rest : (c : Bool) → lists_differ lits weights ≡ false → literal_unlawful lits ≡ false → not (all lawful_weight weights) ≡ c → answer_of (cond c 4 0) ≡ answer_of (lines_refusal lits weights)
+  unfolding lines_refusal first_true
+  lines_rest c a b e = sym (ap₂ (λ (x y : Bool). answer_of (cond x 1 (cond y 2 (cond (not (all lawful_weight weights)) 4 0)))) a b ∙ ap (λ (z : Bool). answer_of (cond z 4 0)) e)
+
+  pub lines_4 : lists_differ lits weights ≡ false → literal_unlawful lits ≡ false → not (all lawful_weight weights) ≡ true → Err WeightUnlawful ≡ answer_of (lines_refusal lits weights)
+  unfolding answer_of refusal_of refusals
+  lines_4 a b e = lines_rest true a b e
+
+  pub lines_0 : lists_differ lits weights ≡ false → literal_unlawful lits ≡ false → not (all lawful_weight weights) ≡ false → Ok tt ≡ answer_of (lines_refusal lits weights)
+  unfolding answer_of
+  lines_0 a b e = lines_rest false a b e
+
+  pub lines_refused : (r : Refusal) → Err r ≡ answer_of (lines_refusal lits weights) → Err r ≡ checked lits weights
+  unfolding answer_of checked checked_end
+  lines_refused r e = go (lines_refusal lits weights) refl e
+    where
+      go : (n : ℕ) → n ≡ lines_refusal lits weights → Err r ≡ answer_of n → Err r ≡ checked lits weights
+      go zero q p = absurd (cc)
+      go (suc n) q p =
+          let r-is : r ≡ refusal_of (suc n) = cc in
+          ap (λ (x : Refusal). Err x) r-is ∙
+          sym (ap (λ (k : ℕ). checked_end k (combined_literals lits) (combined_weights lits weights)) (lines_list (suc n) q (λ (z : suc n ≡ 0). omega arith)))
+
+  pub lines_sent : Ok tt ≡ answer_of (lines_refusal lits weights) → lines_refusal lits weights ≡ 0
+  unfolding answer_of
+  lines_sent e = go (lines_refusal lits weights) e
+    where
+      go : (n : ℕ) → Ok tt ≡ answer_of n → n ≡ 0
+      go zero p = refl
+      go (suc n) p = absurd (cc)
+
   -- and where they are not, the combined weights decide
   pub record Sent : Type 0 where
     pub unequal : lists_differ lits weights ≡ false
     pub unlawful : literal_unlawful lits ≡ false
     pub light : all lawful_weight weights ≡ true
 
-  pub sent : (n : ℕ) → n ≡ lines_refusal lits weights → n ≡ 0 → Sent
+  pub sent : Ok tt ≡ answer_of (lines_refusal lits weights) → Sent
   unfolding lines_refusal first_true
-  sent n e z = go (lists_differ lits weights) refl (literal_unlawful lits) refl (all lawful_weight weights) refl (sym e ∙ z)
+  sent e = go (lists_differ lits weights) refl (literal_unlawful lits) refl (all lawful_weight weights) refl (lines_sent e)
     where
       go : (a : Bool) → lists_differ lits weights ≡ a → (b : Bool) → literal_unlawful lits ≡ b → (c : Bool) → all lawful_weight weights ≡ c → ◌≡◌ {A = ℕ} (cond a 1 (cond b 2 (cond (not c) 4 0))) 0 → Sent
       go true a b p c q e = absurd (omega arith)
@@ -139,29 +148,35 @@ module _ (lits : List ℤ) (weights : List ℕ) where
       ap₂ (λ (x y : Bool). cond x 1 (cond y 2 (cond (not (all lawful_weight weights) || not (all (λ w. leb w 1048575) (combined_weights lits weights))) 4 0))) s.unequal s.unlawful ∙
       ap₂ (λ (x y : Bool). cond (not x || y) 4 0) s.light e
 
-  -- a refused list is handed back empty
-  pub refused_list : (n : ℕ) → list_refusal lits weights ≡ n → (n ≡ 0 → ⊥) → list_of n [] [] ≡ checked lits weights
+  -- a list with a heavy weight, and one that is not refused
+  pub heavy_list : list_refusal lits weights ≡ 4 → Err WeightUnlawful ≡ checked lits weights
+  unfolding checked checked_end refusal_of refusals
+  heavy_list e = sym (ap (λ (k : ℕ). checked_end k (combined_literals lits) (combined_weights lits weights)) e)
+
+  pub accepted_list : (r : Combined) → list_refusal lits weights ≡ 0 → r ≡ list_of (combined_literals lits) (combined_weights lits weights) → Ok r ≡ checked lits weights
   unfolding checked checked_end
-  refused_list zero e z = absurd (z refl)
-  refused_list (suc n) e z = sym (ap (λ (k : ℕ). checked_end k (combined_literals lits) (combined_weights lits weights)) e)
+  accepted_list r e p = ap (λ (x : Combined). Ok x) p ∙ sym (ap (λ (k : ℕ). checked_end k (combined_literals lits) (combined_weights lits weights)) e)
 
-  pub accepted_list : (r : Combined) → list_refusal lits weights ≡ 0 → r ≡ list_of 0 (combined_literals lits) (combined_weights lits weights) → r ≡ checked lits weights
+  -- what the answer of a checked list says of its refusal
+  pub list_refused : (r : Refusal) → Err r ≡ checked lits weights → (list_refusal lits weights ≡ 0 → ⊥) × (r ≡ refusal_of (list_refusal lits weights))
   unfolding checked checked_end
-  accepted_list r e p = p ∙ sym (ap (λ (k : ℕ). checked_end k (combined_literals lits) (combined_weights lits weights)) e)
+  list_refused r e = go (list_refusal lits weights) e
+    where
+      go : (n : ℕ) → Err r ≡ checked_end n (combined_literals lits) (combined_weights lits weights) → (n ≡ 0 → ⊥) × (r ≡ refusal_of n)
+      go zero p = absurd (cc)
+      go (suc n) p = ((λ (z : suc n ≡ 0). omega arith), cc)
 
-  -- the refusal of a checked list, and its count where there is none
-  checked_refusal : (n : ℕ) → (checked_end n (combined_literals lits) (combined_weights lits weights)).refusal ≡ n
-  unfolding checked_end list_of
-  checked_refusal zero = refl
-  checked_refusal (suc n) = refl
+  pub list_accepted : (r : Combined) → Ok r ≡ checked lits weights → (list_refusal lits weights ≡ 0) × (r ≡ list_of (combined_literals lits) (combined_weights lits weights))
+  unfolding checked checked_end
+  list_accepted r e = go (list_refusal lits weights) e
+    where
+      go : (n : ℕ) → Ok r ≡ checked_end n (combined_literals lits) (combined_weights lits weights) → (n ≡ 0) × (r ≡ list_of (combined_literals lits) (combined_weights lits weights))
+      go zero p = (refl, cc)
+      go (suc n) p = absurd (cc)
 
-  pub list_refused : (r : Combined) → r ≡ checked lits weights → r.refusal ≡ list_refusal lits weights
-  unfolding checked
-  list_refused r e = ap (λ (x : Combined). x.refusal) e ∙ checked_refusal (list_refusal lits weights)
-
-  pub list_used : (r : Combined) → r ≡ checked lits weights → list_refusal lits weights ≡ 0 → r.used ≡ length (combined_literals lits)
-  unfolding checked checked_end list_of
-  list_used r e z = ap (λ (x : Combined). x.used) (e ∙ ap (λ (k : ℕ). checked_end k (combined_literals lits) (combined_weights lits weights)) z)
+  pub list_used : (r : Combined) → Ok r ≡ checked lits weights → r.used ≡ length (combined_literals lits)
+  unfolding list_of
+  list_used r e = ap (λ (x : Combined). x.used) (list_accepted r e).1
 
   module _ (first : ℕ) (store : List ℕ) where
     -- the list's refusal comes before 5 and 7
@@ -177,16 +192,34 @@ module _ (lits : List ℤ) (weights : List ℕ) where
         behind (lists_differ lits weights) (literal_unlawful lits) (weight_unlawful lits weights) (fresh_unlawful lits first) (start_no_room lits store) ∙
         ap (λ (k : ℕ). cond (eqb k 0) (cond (fresh_unlawful lits first) 5 (cond (start_no_room lits store) 7 0)) k) e
 
-    pub by_list : (n : ℕ) → list_refusal lits weights ≡ n → (n ≡ 0 → ⊥) → n ≡ start_refusal lits weights first store
-    by_list n e z = sym (in_order n e ∙ ap (λ (b : Bool). cond b (cond (fresh_unlawful lits first) 5 (cond (start_no_room lits store) 7 0)) n) (ne_eqb n 0 z))
+    abbrev start_is : Result Combined Refusal
+    start_is = checked_end (start_refusal lits weights first store) (combined_literals lits) (combined_weights lits weights)
 
-    pub by_fresh : (n : ℕ) → list_refusal lits weights ≡ n → n ≡ 0 → fresh_unlawful lits first ≡ true → 5 ≡ start_refusal lits weights first store
-    by_fresh n e z f =
-        sym (in_order n e ∙ ap₂ (λ (b c : Bool). cond b (cond c 5 (cond (start_no_room lits store) 7 0)) n) (eq-eqb n 0 z) f)
+    at : (n : ℕ) → start_refusal lits weights first store ≡ n → checked_end n (combined_literals lits) (combined_weights lits weights) ≡ start_is
+    at n e = sym (ap (λ (k : ℕ). checked_end k (combined_literals lits) (combined_weights lits weights)) e)
 
-    pub by_room : (n : ℕ) (b : Bool) (r : ℕ) → list_refusal lits weights ≡ n → n ≡ 0 → fresh_unlawful lits first ≡ false → start_no_room lits store ≡ b → r ≡ cond b 7 0 → r ≡ start_refusal lits weights first store
-    by_room n b r e z f g p =
-        p ∙ sym (in_order n e ∙ (ap₂ (λ (x y : Bool). cond x (cond y 5 (cond (start_no_room lits store) 7 0)) n) (eq-eqb n 0 z) f ∙ ap (λ (x : Bool). cond x 7 0) g))
+    pub by_list : (r : Refusal) → Err r ≡ checked lits weights → Err r ≡ start_is
+    unfolding checked
+    by_list r e =
+        let n : ℕ = list_refusal lits weights in
+        e ∙ at n (in_order n refl ∙ ap (λ (b : Bool). cond b (cond (fresh_unlawful lits first) 5 (cond (start_no_room lits store) 7 0)) n) (ne_eqb n 0 (list_refused r e).0))
+
+    behind_list : (f g : Bool) → list_refusal lits weights ≡ 0 → fresh_unlawful lits first ≡ f → start_no_room lits store ≡ g → start_refusal lits weights first store ≡ cond f 5 (cond g 7 0)
+    behind_list f g z p q = in_order 0 z ∙ ap₂ (λ (x y : Bool). cond x 5 (cond y 7 0)) p q
+
+    pub by_fresh : list_refusal lits weights ≡ 0 → fresh_unlawful lits first ≡ true → Err FreshUnlawful ≡ start_is
+    unfolding checked_end refusal_of refusals
+    by_fresh z f = at 5 (behind_list true (start_no_room lits store) z f refl)
+
+    pub by_room : list_refusal lits weights ≡ 0 → fresh_unlawful lits first ≡ false → start_no_room lits store ≡ true → Err NoRoom ≡ start_is
+    unfolding checked_end refusal_of refusals
+    by_room z f g = at 7 (behind_list false true z f g)
+
+    pub by_none : (r : Combined) → Ok r ≡ checked lits weights → fresh_unlawful lits first ≡ false → start_no_room lits store ≡ false → Ok r ≡ start_is
+    unfolding checked_end
+    by_none r e f g =
+        let (z, p) = list_accepted r e in
+        ap (λ (x : Combined). Ok x) p ∙ at 0 (behind_list false false z f g)
 
   -- an accepted list has lawful literals, and few
   pub list_lawful : list_refusal lits weights ≡ 0 → (all lawful lits ≡ true) × (length lits ≤ 256)
@@ -201,8 +234,9 @@ module _ (lits : List ℤ) (weights : List ℕ) where
       first_not k false rest e = (refl, e)
 
 -- so it has few inputs
-pub list_few : (lits : List ℤ) (weights : List ℕ) (r : Combined) → r ≡ checked lits weights → list_refusal lits weights ≡ 0 → r.used ≤ 256
-list_few lits weights r e z = omega (arith, list_used lits weights r e z, combined_few lits, (list_lawful lits weights z).1)
+pub list_few : (lits : List ℤ) (weights : List ℕ) (r : Combined) → Ok r ≡ checked lits weights → r.used ≤ 256
+list_few lits weights r e =
+    omega (arith, list_used lits weights r e, combined_few lits, (list_lawful lits weights (list_accepted lits weights r e).0).1)
 
 -- 7 where there are few inputs, which never pass the largest count of records
 pub no_room : (lits : List ℤ) (store : List ℕ) (k n : ℕ) → k ≡ length store / 8 → n ≡ length (combined_literals lits) → length lits ≤ 256 → k < 2 * n → start_no_room lits store ≡ true
@@ -216,6 +250,6 @@ room lits store k n e f h p =
     le-ltb (min (length store / 8) 4294967296) (2 * length (combined_literals lits)) (omega (arith, combined_few lits))
 
 -- no unlawful literal
-pub lawful_all : (lits : List ℤ) (b : Bool) → b ≡ literal_unlawful lits → b ≡ false → all lawful lits ≡ true
+pub lawful_all : (lits : List ℤ) → literal_unlawful lits ≡ false → all lawful lits ≡ true
 unfolding literal_unlawful
-lawful_all lits b e f = not_not (all lawful lits) (sym e ∙ f)
+lawful_all lits e = not_not (all lawful lits) e

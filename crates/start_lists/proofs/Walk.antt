@@ -1,6 +1,7 @@
 -- A walk along a list asked whether all pass a test, and the words of the literals.
 use mathlib.Core.Path.{◌≡◌, refl, ap}
-use mathlib.Core.Bool.{Bool, true, false, not}
+use mathlib.Core.Bool.{Bool, true, false, not, ◌&&◌}
+use Rattle.std.specs.List.{list_all}
 use mathlib.Core.List.{List, [], ◌∷◌}
 use Prim.Native.Nat.{ℕ, zero, suc, ◌+◌, ◌≤◌, ◌<◌}
 use native.Mathlib.Omega.{arith}
@@ -25,6 +26,12 @@ module _ {A : Type 0} (p : A → Bool) (d : A) (xs : List A) (i : ℕ) (x : Bool
   pub all_end : length xs ≤ i → false ≡ not x
   unfolding all
   all_end h = ap not (along_end (all p) (λ y ys. p y) (λ y ys. refl) refl d xs i x e h)
+
+-- what the library's `all` answers
+pub all_is : {A : Type 0} (p : A → Bool) (xs : List A) → list_all p xs ≡ all p xs
+unfolding all
+all_is p [] = refl
+all_is p (x ∷ xs) = ap (λ (b : Bool). p x && b) (all_is p xs)
 
 -- the words of the literals are as many, each at its place
 words_length : (lits : List ℤ) → length (words lits) ≡ length lits

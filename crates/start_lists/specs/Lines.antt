@@ -1,5 +1,5 @@
 -- Lines and their combined list over words of literals, for the promises of private parts.
-use Rattle.std.specs.Prelude.{◌≡◌, true, not, cond, List, [], ◌∷◌, ◌++◌, map, ℕ, ◌+◌, ◌≤◌, eqb, length, get_or, ℤ}
+use Rattle.std.specs.Prelude.{◌≡◌, true, not, cond, List, [], ◌∷◌, ◌++◌, map, ℕ, ◌+◌, ◌≤◌, eqb, length, ℤ}
 use Rattle.rules.specs.Lists.{all, in_turn, among, padded}
 use Rattle.rules.specs.Numbers.{lawful_weight}
 use Rattle.rules.specs.Refusals.{first_true, lists_differ, literal_unlawful}
@@ -14,10 +14,6 @@ pub record Lines (lits : List ℤ) (weights : List ℕ) : Type 0 where
 unfoldable pub lines_refusal : List ℤ → List ℕ → ℕ
 unfolding first_true lists_differ literal_unlawful all lawful_weight
 lines_refusal lits weights = first_true ((1, lists_differ lits weights) ∷ (2, literal_unlawful lits) ∷ (4, not (all lawful_weight weights)) ∷ [])
-
--- the weight of line i where it names w
-unfoldable pub line_weight : List ℕ → List ℕ → ℕ → ℕ → ℕ
-line_weight ws weights i w = cond (eqb w (get_or ws i 0)) (get_or weights i 0) 0
 
 -- the weights of the lines that name w, added
 unfoldable pub named_word : List ℕ → List ℕ → ℕ → ℕ

@@ -1,6 +1,6 @@
 -- The clauses of the pairs, and then the number: one law for each way.
-use mathlib.Core.Path.{◌≡◌, refl, sym, ap, ap₂, ◌∙◌}
-use mathlib.Core.Bool.{Bool, true, false, false≢true}
+use mathlib.Core.Path.{◌≡◌, refl, ap, ap₂, ◌∙◌, subst}
+use mathlib.Core.Bool.{Bool, true, false}
 use mathlib.Core.List.{List, [], ◌∷◌, ◌++◌}
 use Prim.Native.Nat.{ℕ, ◌+◌, ◌*◌, ◌-◌, ◌<◌}
 use native.Mathlib.Omega.{arith}
@@ -13,26 +13,9 @@ use Rattle.records_clauses.specs.Clauses.{side_of, with_clause, clause_of}
 use Rattle.records.specs.Words.{full_of}
 use Rattle.records.specs.Carries.{St, st, Steps, Stores}
 use Rattle.records_clauses.proofs.Clause.{clause_grows}
-use Rattle.records.proofs.Step.{steps_then, stop, filled, held, Rest, rest_turn}
+use Rattle.records.proofs.Step.{full_kept, steps_then, stop, filled, held, Rest, rest_start, rest_turn}
 use Rattle.totalizer_clauses.proofs.Growth.{finish_grows}
 use Rattle.totalizer_clauses.proofs.PairWalk.{write_turn}
-
--- The value that a count asks -------------------------------------------------------------------------------------------
-
-pub through_far : (half : Bool) (b : ℕ) → half ≡ true → 2147483647 < b → asks half b < 4294967296 → 0 ≡ asks half b
-unfolding asks
-through_far true b e i j = absurd (omega arith)
-through_far false b e i j = absurd (false≢true e)
-
-pub through_half : (half : Bool) (b : ℕ) → half ≡ true → 2 * b ≡ asks half b
-unfolding asks
-through_half true b e = refl
-through_half false b e = absurd (false≢true e)
-
-pub through_whole : (half : Bool) (b : ℕ) → half ≡ false → b ≡ asks half b
-unfolding asks
-through_whole true b e = absurd (false≢true (sym e))
-through_whole false b e = refl
 
 -- Clauses -----------------------------------------------------------------------------------------------------------------
 
@@ -55,12 +38,16 @@ module _ (s : List ℕ) (c : List ℤ) (m : Marks) (half : Bool) (l r a b number
             ap (λ (x : ℤ). side t.records l a ++ (side t.records r (asks half b) ++ (x ∷ []))) (ap word_literal eo ∙ literal_word_literal (pos number))),
       ))
 
-pub clauses_turn : (σ₀ σ τ : St) (f : Arena → Arena) (half : Bool) (l r number k a v : ℕ) → 0 < k →
+pub clauses_start : (σ : St) (half : Bool) (l r number many k lo v : ℕ) → k ≡ many →
+    Rest σ σ (write half l r number (pairs_from many lo v)) (write half l r number (pairs_from k lo v))
+clauses_start σ half l r number many k lo v e = rw e (rest_start σ (write half l r number (pairs_from many lo v)))
+
+pub clauses_turn : (σ₀ σ τ : St) (f : Arena → Arena) (half : Bool) (l r number end a v : ℕ) → a < end →
     Steps σ τ (λ t. with_clause (clause t.records half l r number (a, v - a)) t) →
-    Rest σ₀ σ f (write half l r number (pairs_from k a v)) → Rest σ₀ τ f (write half l r number (pairs_from (k - 1) (a + 1) v))
-clauses_turn σ₀ σ τ f half l r number k a v i p =
-    rest_turn σ₀ σ τ f (write half l r number (pairs_from k a v)) (write half l r number (pairs_from (k - 1) (a + 1) v))
-    (λ t. with_clause (clause t.records half l r number (a, v - a)) t) p (write_turn half l r number k a v i)
+    Rest σ₀ σ f (write half l r number (pairs_from (end - a) a v)) → Rest σ₀ τ f (write half l r number (pairs_from (end - (a + 1)) (a + 1) v))
+clauses_turn σ₀ σ τ f half l r number end a v i p =
+    rest_turn σ₀ σ τ f (write half l r number (pairs_from (end - a) a v)) (write half l r number (pairs_from (end - (a + 1)) (a + 1) v))
+    (λ t. with_clause (clause t.records half l r number (a, v - a)) t) p (write_turn half l r number end a v i)
 
 pub word_of_number : (n : ℕ) → 2 * n ≡ literal_word (pos n)
 unfolding literal_word
@@ -69,8 +56,10 @@ word_of_number n = refl
 -- The clauses and the number ------------------------------------------------------------------------------------------------
 
 module _ (s : List ℕ) (c : List ℤ) (m : Marks) (n v : ℕ) (half : Bool) (l r : ℕ) (ps : List (ℕ × ℕ)) where
-  pub finish_stop : m.full ≡ true → Steps (st s c m) (st s c m) (λ t. take_number n v (write half l r t.fresh ps t))
-  finish_stop k = stop (st s c m) (λ t. take_number n v (write half l r t.fresh ps t)) (finish_grows n v half l r ps) k
+  pub finish_stop : (z : Marks) → z ≡ full_of m → m.full ≡ true → Steps (st s c m) (st s c z) (λ t. take_number n v (write half l r t.fresh ps t))
+  finish_stop z ez k =
+      subst (λ (y : Marks). Steps (st s c m) (st s c y) (λ t. take_number n v (write half l r t.fresh ps t))) (full_kept m z ez k)
+      (stop (st s c m) (λ t. take_number n v (write half l r t.fresh ps t)) (finish_grows n v half l r ps) k)
 
   pub finish_end : (z : Marks) → m.full ≡ false → z ≡ full_of m → 1000000000 < m.fresh →
       Steps (st s c m) (st s c z) (λ t. take_number n v (write half l r t.fresh ps t))

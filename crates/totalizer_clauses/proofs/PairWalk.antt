@@ -9,11 +9,13 @@ use Rattle.rules.specs.Records.{Record, node_at}
 use Rattle.rules.specs.Totalizer.{Arena, counts, asks, pairs_from, pairs, clause, write}
 use Rattle.records.specs.Carries.{Stores}
 use Rattle.records_clauses.specs.Clauses.{with_clause}
+use Rattle.totalizer_clauses.specs.declared.Pairs.{Pairs}
 use Rattle.totalizer_clauses.specs.Spread.{Spread}
 
 -- fewer pairs lie within v too
-pub span_fewer : (v lo all most many : ℕ) → lo + all ≤ v + 1 → many ≡ min all most → lo + many ≤ v + 1
-span_fewer v lo all most many h e = omega arith
+pub span_fewer : (v most : ℕ) (all pairs : Pairs) → pairs ≡ record { lo = all.lo; many = min all.many (v - most - all.lo) } → all.lo + all.many ≤ v + 1 →
+    pairs.lo + pairs.many ≤ v + 1
+span_fewer v most all pairs e h = rw e (omega arith)
 
 asks_under : (half : Bool) (x y : ℕ) → x ≤ y → asks half y < 4294967296 → asks half x < 4294967296
 unfolding asks
@@ -31,13 +33,13 @@ asks_first true v top right lo i e f = omega arith
 asks_first false v top right lo i e f = omega arith
 
 -- the pairs, from the maxima of both sides
-pub spread_is : (s : List ℕ) (records : ℕ) (half : Bool) (l r v top right left lo high many : ℕ) → top < 4294967296 →
+pub spread_is : (s : List ℕ) (records : ℕ) (half : Bool) (l r v top right left lo many : ℕ) → top < 4294967296 →
     ((rs : List Record) → Stores s records rs → top ≡ (node_at rs r).maximum) → right ≡ counts half top →
-    ((rs : List Record) → Stores s records rs → left ≡ (node_at rs l).maximum) → lo ≡ v - right → high ≡ min v left → many ≡ suc high - lo →
+    ((rs : List Record) → Stores s records rs → left ≡ (node_at rs l).maximum) → lo ≡ v - right → many ≡ min v left + 1 - lo →
     Spread s records half l r v lo many
-spread_is s records half l r v top right left lo high many i et er el elo ehi em = record {
+spread_is s records half l r v top right left lo many i et er el elo em = record {
   lo_is = λ rs h. elo ∙ ap (λ (z : ℕ). v - z) (er ∙ ap (counts half) (et rs h));
-  many_is = λ rs h. em ∙ ap (λ (z : ℕ). suc z - lo) (ehi ∙ ap (min v) (el rs h));
+  many_is = λ rs h. omega (arith, el rs h);
   within = omega arith;
   askable = asks_first half v top right lo i er elo;
 }
@@ -52,15 +54,15 @@ pub asks_whole : (a : ℕ) → a < 4294967296 → asks false a < 4294967296
 unfolding asks
 asks_whole a i = i
 
--- one turn of the loops
+-- one turn of the loop
 module _ (half : Bool) (l r : ℕ) where
-  pub write_turn : (number k a v : ℕ) → 0 < k → (t : Arena) →
-      write half l r number (pairs_from k a v) t ≡
-      write half l r number (pairs_from (k - 1) (a + 1) v) (with_clause (clause t.records half l r number (a, v - a)) t)
+  pub write_turn : (number end a v : ℕ) → a < end → (t : Arena) →
+      write half l r number (pairs_from (end - a) a v) t ≡
+      write half l r number (pairs_from (end - (a + 1)) (a + 1) v) (with_clause (clause t.records half l r number (a, v - a)) t)
   unfolding write pairs_from with_clause
-  write_turn number zero a v i t = absurd (omega arith)
-  write_turn number (suc k) a v i t =
-      let e : suc k - 1 ≡ k = omega arith in
+  write_turn number end a v i t =
+      let k : ℕ = end - suc a in
+      let e : end - a ≡ suc k = omega arith in
       let f : a + 1 ≡ suc a = omega arith in
       let g : ℕ × ℕ → List ℤ = clause t.records half l r number in
       rw (e, f) (ap (λ (z : List (List ℤ)). record { records = t.records; fresh = t.fresh; clauses = z })

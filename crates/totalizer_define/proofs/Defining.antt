@@ -14,7 +14,8 @@ use Rattle.records.specs.declared.Marks.{Marks}
 use Rattle.records.specs.Readers.{is_join, is_halved}
 use Rattle.records.specs.Carries.{St, st, marks_of, Steps, Stores}
 use Rattle.records.proofs.Read.{join_parts}
-use Rattle.records.proofs.Step.{steps_none, steps_then, steps_same, stop, held, Rest, rest_turn}
+use Rattle.records.proofs.Step.{steps_none, steps_then, steps_same, stop, held, Rest, rest_start, rest_turn}
+use Rattle.totalizer_clauses.specs.declared.Pairs.{Pairs}
 use Rattle.totalizer_clauses.specs.Spread.{Spread}
 use Rattle.totalizer_define.proofs.Growth.{define_grows, output_grows, extend_grows}
 use Rattle.totalizer_clauses.proofs.PairWalk.{span_fewer, spread_pairs}
@@ -34,16 +35,20 @@ ask_is d t n (suc y) h = refl
 pub ask_some : (σ τ : St) (d : Define) (n x y : ℕ) → y ≡ x → (y ≡ 0 → ⊥) → Steps σ τ (λ t. d t n y) → Steps σ τ (λ t. ask d t n x)
 ask_some σ τ d n x y p q s = steps_same σ τ (λ t. d t n y) (λ t. ask d t n x) (λ t. ask_is d t n y q ∙ ap (ask d t n) p) s
 
+pub asks_start : (σ : St) (d : Define) (half : Bool) (l r many k lo v : ℕ) → k ≡ many →
+    Rest σ σ (λ t. in_turn (ask_pair d half l r) t (pairs_from many lo v)) (λ t. in_turn (ask_pair d half l r) t (pairs_from k lo v))
+asks_start σ d half l r many k lo v e = rw e (rest_start σ (λ t. in_turn (ask_pair d half l r) t (pairs_from many lo v)))
+
 -- one pair: left, then right
-pub asks_turn : (σ₀ σ τ υ : St) (f : Arena → Arena) (d : Define) (half : Bool) (l r k a v : ℕ) → 0 < k →
+pub asks_turn : (σ₀ σ τ υ : St) (f : Arena → Arena) (d : Define) (half : Bool) (l r end a v : ℕ) → a < end →
     Steps σ τ (λ t. ask d t l (asks false a)) → Steps τ υ (λ t. ask d t r (asks half (v - a))) →
-    Rest σ₀ σ f (λ t. in_turn (ask_pair d half l r) t (pairs_from k a v)) → Rest σ₀ υ f (λ t. in_turn (ask_pair d half l r) t (pairs_from (k - 1) (a + 1) v))
+    Rest σ₀ σ f (λ t. in_turn (ask_pair d half l r) t (pairs_from (end - a) a v)) → Rest σ₀ υ f (λ t. in_turn (ask_pair d half l r) t (pairs_from (end - (a + 1)) (a + 1) v))
 unfolding asks
-asks_turn σ₀ σ τ υ f d half l r k a v i p q =
-    rest_turn σ₀ σ υ f (λ t. in_turn (ask_pair d half l r) t (pairs_from k a v)) (λ t. in_turn (ask_pair d half l r) t (pairs_from (k - 1) (a + 1) v))
+asks_turn σ₀ σ τ υ f d half l r end a v i p q =
+    rest_turn σ₀ σ υ f (λ t. in_turn (ask_pair d half l r) t (pairs_from (end - a) a v)) (λ t. in_turn (ask_pair d half l r) t (pairs_from (end - (a + 1)) (a + 1) v))
     (λ t. ask d (ask d t l a) r (asks half (v - a)))
     (steps_then σ τ υ (λ t. ask d t l a) (λ t. ask d t r (asks half (v - a))) p q)
-    (pairs_turn half l r d k a v i)
+    (pairs_turn half l r d end a v i)
 
 -- An output -----------------------------------------------------------------------------------------------------------------
 
@@ -144,41 +149,50 @@ unfolding define_output
 output_done s c m υ h n v k eh p =
     held s c m υ (λ t. define_output t n v) k (λ t at e. ((λ u. define h u n v), p, ap (λ (i : ℕ). define i t n v) (eh t.records at)))
 
-pub outputs_turn : (σ₀ σ τ : St) (f : Arena → Arena) (n k v : ℕ) → 0 < k → Steps σ τ (λ t. define_output t n v) →
-    Rest σ₀ σ f (λ t. in_turn (λ t v. define_output t n v) t (rising k v)) → Rest σ₀ τ f (λ t. in_turn (λ t v. define_output t n v) t (rising (k - 1) (v + 1)))
-outputs_turn σ₀ σ τ f n k v i p =
-    rest_turn σ₀ σ τ f (λ t. in_turn (λ t v. define_output t n v) t (rising k v)) (λ t. in_turn (λ t v. define_output t n v) t (rising (k - 1) (v + 1)))
-    (λ t. define_output t n v) p (rising_turn (λ t v. define_output t n v) k v i)
+pub outputs_start : (σ : St) (n many k v : ℕ) → k ≡ many →
+    Rest σ σ (λ t. in_turn (λ t v. define_output t n v) t (rising many v)) (λ t. in_turn (λ t v. define_output t n v) t (rising k v))
+outputs_start σ n many k v e = rw e (rest_start σ (λ t. in_turn (λ t v. define_output t n v) t (rising many v)))
+
+pub outputs_turn : (σ₀ σ τ : St) (f : Arena → Arena) (n end v : ℕ) → v < end → Steps σ τ (λ t. define_output t n v) →
+    Rest σ₀ σ f (λ t. in_turn (λ t v. define_output t n v) t (rising (end - v) v)) → Rest σ₀ τ f (λ t. in_turn (λ t v. define_output t n v) t (rising (end - (v + 1)) (v + 1)))
+outputs_turn σ₀ σ τ f n end v i p =
+    rest_turn σ₀ σ τ f (λ t. in_turn (λ t v. define_output t n v) t (rising (end - v) v)) (λ t. in_turn (λ t v. define_output t n v) t (rising (end - (v + 1)) (v + 1)))
+    (λ t. define_output t n v) p (rising_turn (λ t v. define_output t n v) end v i)
 
 -- An output defined earlier ---------------------------------------------------------------------------------------------------
 
 pub extend_stop : (σ : St) (n most : ℕ) (o : Output) → (marks_of σ).full ≡ true → Steps σ σ (λ t. extend n most t o)
 extend_stop σ n most o k = stop σ (λ t. extend n most t o) (extend_grows n most o) k
 
-module _ (s : List ℕ) (c : List ℤ) (m : Marks) (n most v : ℕ) (o : Output) (k : m.full ≡ false) (ev : v ≡ o.value) (l r lo all many h : ℕ)
+module _ (s : List ℕ) (c : List ℤ) (m : Marks) (n most v : ℕ) (o : Output) (k : m.full ≡ false) (ev : v ≡ o.value) (l r : ℕ) (all pairs : Pairs) (h : ℕ)
     (el : (rs : List Record) → Stores s m.records rs → l ≡ left_link (node_at rs n).kind)
-    (er : (rs : List Record) → Stores s m.records rs → r ≡ right_link (node_at rs n).kind) (es : Spread s m.records true l r v lo all)
-    (em : many ≡ min all (v - most - lo)) (eh : (rs : List Record) → Stores s m.records rs → h ≡ (node_at rs n).height) where
+    (er : (rs : List Record) → Stores s m.records rs → r ≡ right_link (node_at rs n).kind) (es : Spread s m.records true l r v all.lo all.many)
+    (ep : pairs ≡ record { lo = all.lo; many = min all.many (v - most - all.lo) }) (eh : (rs : List Record) → Stores s m.records rs → h ≡ (node_at rs n).height) where
+  abbrev ps : List (ℕ × ℕ)
+  ps = pairs_from pairs.many pairs.lo v
+
   -- the pairs whose b exceeds the bound
-  few : (rs : List Record) → Stores s m.records rs → pairs_from many lo v ≡ further_pairs rs n most o.value
+  few : (rs : List Record) → Stores s m.records rs → ps ≡ further_pairs rs n most o.value
   unfolding further_pairs
   few rs at =
-      let first : pairs_from many lo v ≡ keep (λ p. ltb most p.1) (pairs_from all lo v) = rw em (sym (further most all lo v)) in
-      first ∙ (ap (keep (λ p. ltb most p.1)) (spread_pairs s m.records true l r v lo all es rs at) ∙
+      let first : ps ≡ keep (λ p. ltb most p.1) (pairs_from all.many all.lo v) = rw ep (sym (further most all.many all.lo v)) in
+      first ∙ (ap (keep (λ p. ltb most p.1)) (spread_pairs s m.records true l r v all.lo all.many es rs at) ∙
       rw (el rs at, er rs at, ev) refl)
 
-  pub extend_done : (τ υ : St) → (asks true (v - lo) < 4294967296 → Steps (st s c m) τ (λ t. in_turn (ask_pair (define h) true l r) t (pairs_from many lo v))) →
-      (lo + many ≤ v + 1 → asks true (v - lo) < 4294967296 → Steps τ υ (write true l r o.number (pairs_from many lo v))) → Steps (st s c m) υ (λ t. extend n most t o)
+  askable : asks true (v - pairs.lo) < 4294967296
+  askable = rw ep es.askable
+
+  pub extend_done : (τ υ : St) → (asks true (v - pairs.lo) < 4294967296 → Steps (st s c m) τ (λ t. in_turn (ask_pair (define h) true l r) t ps)) →
+      (pairs.lo + pairs.many ≤ v + 1 → asks true (v - pairs.lo) < 4294967296 → Steps τ υ (write true l r o.number ps)) → Steps (st s c m) υ (λ t. extend n most t o)
   unfolding extend
   extend_done τ υ p q =
-      held s c m υ (λ t. extend n most t o) k (λ t at e.
-      let ps : List (ℕ × ℕ) = pairs_from many lo v in (
+      held s c m υ (λ t. extend n most t o) k (λ t at e. (
         (λ u. write true l r o.number ps (in_turn (ask_pair (define h) true l r) u ps)),
-        steps_then (st s c m) τ υ (λ u. in_turn (ask_pair (define h) true l r) u ps) (write true l r o.number ps) (p es.askable) (q (span_fewer v lo all (v - most - lo) many es.within em) es.askable),
+        steps_then (st s c m) τ υ (λ u. in_turn (ask_pair (define h) true l r) u ps) (write true l r o.number ps) (p askable) (q (span_fewer v most all pairs ep es.within) askable),
         same t (el t.records at) (er t.records at) (eh t.records at) (few t.records at),
       ))
     where
       same : (t : Arena) → l ≡ left_link (node_at t.records n).kind → r ≡ right_link (node_at t.records n).kind → h ≡ (node_at t.records n).height →
-          pairs_from many lo v ≡ further_pairs t.records n most o.value →
-          write true l r o.number (pairs_from many lo v) (in_turn (ask_pair (define h) true l r) t (pairs_from many lo v)) ≡ extend n most t o
+          ps ≡ further_pairs t.records n most o.value →
+          write true l r o.number ps (in_turn (ask_pair (define h) true l r) t ps) ≡ extend n most t o
       same t a b d e = rw (a, b, d, e) refl

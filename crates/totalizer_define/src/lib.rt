@@ -9,7 +9,8 @@ ghost use Rattle.rules.specs.Totalizer.{asks, ask, ask_pair, pairs_from, define,
 ghost use Rattle.rules.specs.Refinement.{extend};
 ghost use Rattle.records.specs.Carries.{st, Steps};
 
-use records::Marks;
+use records::{Marks, Store};
+use totalizer_clauses::{Pairs, Sides};
 
 // The largest value that fits a word.
 const MOST_VALUE: usize = u32::MAX as usize;
@@ -18,54 +19,46 @@ const MOST_VALUE: usize = u32::MAX as usize;
 fn define_by(s: &mut [u32], c: &mut [i32], m: Marks, node: u32, v: u32, height: u32) -> Marks
     ensures { Steps (st s.old c.old m) (st s.new c.new result) (λ t. define height t node v) }
 {
-    if height == 0 {
+    if height == 0 || m.full {
         return m;
     }
-    if m.full {
+    let store = Store {
+        words: s,
+        records: m.records,
+    };
+    if !store.is_join(node) || totalizer_find::find(store, node, v) != 0 {
         return m;
     }
-    let n = m.records;
-    if !records::is_join(s, n, node) {
-        return m;
-    }
-    if totalizer_find::find(s, n, node, v) != 0 {
-        return m;
-    }
-    let half = records::halved(s, n, node);
-    let l = records::left(s, n, node);
-    let r = records::right(s, n, node);
-    let x = totalizer_clauses::spread(s, n, half, l, r, v);
-    let k = ask_pairs(s, c, m, half, l, r, v, x.lo, x.many, height - 1);
-    totalizer_clauses::finish(s, c, k, node, v, half, l, r, x.lo, x.many)
+    let sides = Sides {
+        half: store.halved(node),
+        left: store.left(node),
+        right: store.right(node),
+    };
+    let pairs = totalizer_clauses::spread(store, sides, v);
+    let k = ask_pairs(s, c, m, sides, v, pairs, height - 1);
+    totalizer_clauses::finish(s, c, k, node, v, sides, pairs)
 }
 
-// What the pairs from lo on use, a rising, left before right.
+// What the pairs that add to v use, a rising, left before right.
 #[cycle(ask_pairs_define_by_resolve)]
 fn ask_pairs(
     s: &mut [u32],
     c: &mut [i32],
     m: Marks,
-    half: bool,
-    l: u32,
-    r: u32,
+    sides: Sides,
     v: u32,
-    lo: u32,
-    many: usize,
+    pairs: Pairs,
     height: u32,
 ) -> Marks
-    requires { lo + many ≤ v + 1 }
-    ensures { asks half (v - lo) < 4294967296 → Steps (st s.old c.old m) (st s.new c.new result) (λ t. in_turn (ask_pair (define height) half l r) t (pairs_from many lo v)) }
+    requires { pairs.lo + pairs.many ≤ v + 1 }
+    ensures { asks sides.half (v - pairs.lo) < 4294967296 → Steps (st s.old c.old m) (st s.new c.new result) (λ t. in_turn (ask_pair (define height) sides.half sides.left sides.right) t (pairs_from pairs.many pairs.lo v)) }
 {
+    let lo = pairs.lo as usize;
     let mut n = m;
-    let mut a = lo as usize;
-    let mut k = many;
-    while 0 < k {
+    for a in lo..lo + pairs.many {
         let x = a as u32;
-        let y = v - x;
-        n = resolve(s, c, n, false, l, x, height);
-        n = resolve(s, c, n, half, r, y, height);
-        a += 1;
-        k -= 1;
+        n = resolve(s, c, n, false, sides.left, x, height);
+        n = resolve(s, c, n, sides.half, sides.right, v - x, height);
     }
     n
 }
@@ -85,9 +78,10 @@ fn resolve(
 {
     let y = totalizer_clauses::through(half, x);
     if y == 0 {
-        return m;
+        m
+    } else {
+        define_by(s, c, m, link, y, height)
     }
-    define_by(s, c, m, link, y, height)
 }
 
 // Output v of the node, with all that it uses. A find for each output asked for, two for each clause.
@@ -97,7 +91,11 @@ pub fn define(s: &mut [u32], c: &mut [i32], m: Marks, node: u32, v: u32) -> Mark
     if m.full {
         return m;
     }
-    let height = records::height(s, m.records, node);
+    let store = Store {
+        words: s,
+        records: m.records,
+    };
+    let height = store.height(node);
     define_by(s, c, m, node, v, height)
 }
 
@@ -112,16 +110,11 @@ pub fn define_from(
 ) -> Marks
     ensures { first + many ≤ 4294967296 → Steps (st s.old c.old m) (st s.new c.new result) (λ t. in_turn (λ t v. define_output t node v) t (rising many first)) }
 {
+    let from = first as usize;
+    let end = from.saturating_add(many).min(MOST_VALUE + 1);
     let mut n = m;
-    let mut v = first as usize;
-    let mut k = many;
-    while 0 < k {
-        if MOST_VALUE < v {
-            return n;
-        }
+    for v in from..end {
         n = define(s, c, n, node, v as u32);
-        v += 1;
-        k -= 1;
     }
     n
 }
@@ -134,12 +127,18 @@ pub fn extend(s: &mut [u32], c: &mut [i32], m: Marks, node: u32, most: u32, v: u
     if m.full {
         return m;
     }
-    let n = m.records;
-    let l = records::left(s, n, node);
-    let r = records::right(s, n, node);
-    let x = totalizer_clauses::spread(s, n, true, l, r, v);
-    let many = totalizer_clauses::further(x, v, most);
-    let height = records::height(s, n, node);
-    let k = ask_pairs(s, c, m, true, l, r, v, x.lo, many, height);
-    totalizer_clauses::write(s, c, k, true, l, r, v, x.lo, many, o)
+    let store = Store {
+        words: s,
+        records: m.records,
+    };
+    let sides = Sides {
+        half: true,
+        left: store.left(node),
+        right: store.right(node),
+    };
+    let all = totalizer_clauses::spread(store, sides, v);
+    let pairs = totalizer_clauses::further(all, v, most);
+    let height = store.height(node);
+    let k = ask_pairs(s, c, m, sides, v, pairs, height);
+    totalizer_clauses::write(s, c, k, sides, v, pairs, o)
 }

@@ -8,7 +8,7 @@ use lib.Dec.{eqb}
 use lib.ListN.{length, get_or, drop, drop_of_length-le}
 use lib.Seq.{drop-cons}
 use lib.IntN.{ℤ, pos, neg_ℤ}
-use borrow.Author.Tests.{eq-eqb, ne_eqb, eqb-true, eqb-false}
+use borrow.Author.Tests.{ne_eqb, eqb-true, eqb-false}
 use Rattle.rules.specs.Records.{Kind, leaf, join, dummy, Record, node, output, waiting, unknown, node_at, node_image, record_image, literal_word, word_literal, outputs}
 use Rattle.rules.specs.WellFormed.{is_leaf}
 use Rattle.rules.specs.Totalizer.{number_in, number_of, literal_of, side}
@@ -20,21 +20,6 @@ use Rattle.records_clauses.specs.Clauses.{side_of}
 use Rattle.records.specs.Carries.{Stores}
 use Rattle.records.proofs.Read.{field_is}
 use Rattle.totalizer_find.specs.Hit.{hit_at}
-
--- the word-level test, one law for each way
-module _ (s : List ℕ) (records i n v x : ℕ) (ex : x ≡ field_at s records i 0) where
-  pub hit_other : (x ≡ 4 → ⊥) → false ≡ hit_at s records i n v
-  unfolding hit_at
-  hit_other h = simp (ne_eqb _ 4 (rw ex at h))
-
-  module _ (is : x ≡ 4) (y : ℕ) (ey : y ≡ field_at s records i 1) where
-    pub hit_elsewhere : (y ≡ n → ⊥) → false ≡ hit_at s records i n v
-    unfolding hit_at
-    hit_elsewhere h = simp (eq-eqb (field_at s records i 0) 4 (cc), ne_eqb _ n (rw ey at h))
-
-    pub hit_value : y ≡ n → (z : ℕ) → z ≡ field_at s records i 2 → eqb z v ≡ hit_at s records i n v
-    unfolding hit_at
-    hit_value h z ez = simp (eq-eqb (field_at s records i 0) 4 (cc), eq-eqb (field_at s records i 1) n (cc), ez)
 
 -- the record is output v of node n
 hits : Record → ℕ → ℕ → Bool

@@ -1,11 +1,11 @@
 -- A merge is its two halves and their join, whatever the fuel.
-use mathlib.Core.Path.{◌≡◌, refl, sym, ap, ◌∙◌, subst}
+use mathlib.Core.Path.{◌≡◌, sym, ap, ◌∙◌}
 use mathlib.Core.Bool.{false}
 use mathlib.Core.List.{List, [], ◌∷◌}
-use Prim.Native.Nat.{ℕ, zero, suc, ◌-◌, ◌/◌}
+use Prim.Native.Nat.{ℕ, zero, suc, ◌-◌, ◌/◌, ◌<◌, ◌≤◌}
 use native.Mathlib.Omega.{arith}
 use lib.ListN.{length, get_or, take, drop, length-drop}
-use lib.Seq.{length-take-le, take_all}
+use lib.Seq.{length-take-le}
 use Rattle.rules.specs.Records.{Record}
 use Rattle.rules.specs.Totalizer.{Arena, joining, add, merge_by, merge}
 use Rattle.laws.specs.Totalizer.Merges.{merge_fuel}
@@ -31,11 +31,11 @@ two_same d g ms rs p q =
     ap (λ (b : List Record × ℕ). add b.0 (joining b.0 false (g rs (take (length ms / 2) ms)).1 b.1)) (q (g rs (take (length ms / 2) ms)).0)
 
 -- a list of two or more
-merge_two : (ms : List ℕ) (rs : List Record) → (length ms ≡ 0 → ⊥) → (length ms ≡ 1 → ⊥) → merge rs ms ≡ two merge ms rs
+merge_two : (ms : List ℕ) (rs : List Record) → 2 ≤ length ms → merge rs ms ≡ two merge ms rs
 unfolding merge merge_by two
-merge_two [] rs h k = absurd (h refl)
-merge_two (m ∷ []) rs h k = absurd (k refl)
-merge_two (m ∷ m' ∷ ms) rs h k =
+merge_two [] rs h = absurd (omega arith)
+merge_two (m ∷ []) rs h = absurd (omega arith)
+merge_two (m ∷ m' ∷ ms) rs h =
     let all : List ℕ = m ∷ m' ∷ ms in
     let half : ℕ = length all / 2 in
     let f : ℕ = length (m' ∷ ms) in
@@ -68,22 +68,16 @@ merge_grows ms t = by_grows (length ms) ms t
 
 -- One law for each way --------------------------------------------------------------------------------------------------------
 
-pub merge_none : (ms : List ℕ) (σ : St) → length ms ≡ 0 → Makes σ σ 0 (on_records (λ rs. merge rs ms))
+pub merge_none : (ms : List ℕ) (σ : St) → length ms < 1 → Makes σ σ 0 (on_records (λ rs. merge rs ms))
 unfolding merge merge_by on_records with_records
 merge_none [] σ h = makes_none σ 0
 merge_none (m ∷ ms) σ h = absurd (omega arith)
 
-pub merge_one : (ms : List ℕ) (σ : St) → length ms ≡ 1 → Makes σ σ (get_or ms 0 0) (on_records (λ rs. merge rs ms))
+pub merge_one : (ms : List ℕ) (σ : St) → 1 ≤ length ms → length ms < 2 → Makes σ σ (get_or ms 0 0) (on_records (λ rs. merge rs ms))
 unfolding merge merge_by on_records with_records
-merge_one [] σ h = absurd (omega arith)
-merge_one (m ∷ []) σ h = makes_none σ m
-merge_one (m ∷ m' ∷ ms) σ h = absurd (omega arith)
-
-pub right_half : (ms : List ℕ) → length (take (length ms - length ms / 2) (drop (length ms / 2) ms)) ≡ length ms - length ms / 2
-right_half ms = length-take-le (length ms - length ms / 2) (drop (length ms / 2) ms) (omega (arith, length-drop (length ms / 2) ms))
-
-right_is : (ms : List ℕ) → take (length ms - length ms / 2) (drop (length ms / 2) ms) ≡ drop (length ms / 2) ms
-right_is ms = take_all (length ms - length ms / 2) (drop (length ms / 2) ms) (omega (arith, length-drop (length ms / 2) ms))
+merge_one [] σ h k = absurd (omega arith)
+merge_one (m ∷ []) σ h k = makes_none σ m
+merge_one (m ∷ m' ∷ ms) σ h k = absurd (omega arith)
 
 -- the right part, and the join with what the left part is named
 after_left : List ℕ → ℕ → Arena → Arena × ℕ
@@ -96,22 +90,18 @@ after_grows ms l t =
     let u : Arena × ℕ = on_records (λ rs. merge rs ms) t in
     grows_trans t u.0 (after_left ms l t).0 (merge_grows ms t) (join_grows false l u.1 u.0)
 
-whole : (ms : List ℕ) (t : Arena) → (length ms ≡ 0 → ⊥) → (length ms ≡ 1 → ⊥) →
+whole : (ms : List ℕ) (t : Arena) → 2 ≤ length ms →
     after_left (drop (length ms / 2) ms) (on_records (λ rs. merge rs (take (length ms / 2) ms)) t).1 (on_records (λ rs. merge rs (take (length ms / 2) ms)) t).0 ≡
     on_records (λ rs. merge rs ms) t
 unfolding after_left on_records with_records two
-whole ms t h k = ap (λ (a : List Record × ℕ). (with_records t a.0, a.1)) (sym (merge_two ms t.records h k))
+whole ms t h = ap (λ (a : List Record × ℕ). (with_records t a.0, a.1)) (sym (merge_two ms t.records h))
 
-pub merge_done : (ms : List ℕ) (σ τ υ ω : St) (l r x : ℕ) → (length ms ≡ 0 → ⊥) → (length ms ≡ 1 → ⊥) →
-    Makes σ τ l (on_records (λ rs. merge rs (take (length ms / 2) ms))) →
-    Makes τ υ r (on_records (λ rs. merge rs (take (length ms - length ms / 2) (drop (length ms / 2) ms)))) →
+pub merge_done : (ms left right : List ℕ) (σ τ υ ω : St) (l r x : ℕ) → 2 ≤ length ms → left ≡ take (length ms / 2) ms → right ≡ drop (length ms / 2) ms →
+    Makes σ τ l (on_records (λ rs. merge rs left)) → Makes τ υ r (on_records (λ rs. merge rs right)) →
     Makes υ ω x (on_records (λ rs. add rs (joining rs false l r))) → Makes σ ω x (on_records (λ rs. merge rs ms))
 unfolding after_left
-merge_done ms σ τ υ ω l r x h k p q j =
-    let left : List ℕ = take (length ms / 2) ms in
-    let right : List ℕ = drop (length ms / 2) ms in
-    let q' : Makes τ υ r (on_records (λ rs. merge rs right)) = subst (λ (z : List ℕ). Makes τ υ r (on_records (λ rs. merge rs z))) (right_is ms) q in
+merge_done ms left right σ τ υ ω l r x h el er p q j =
     let both : Makes τ ω x (after_left right l)
-    = makes_then τ υ ω r x (on_records (λ rs. merge rs right)) (λ (y : ℕ). on_records (λ rs. add rs (joining rs false l y))) (λ y t. join_grows false l y t) q' j in
-    makes_same σ ω x (λ t. after_left right (on_records (λ rs. merge rs left) t).1 (on_records (λ rs. merge rs left) t).0) (on_records (λ rs. merge rs ms)) (λ t. whole ms t h k)
+    = makes_then τ υ ω r x (on_records (λ rs. merge rs right)) (λ (y : ℕ). on_records (λ rs. add rs (joining rs false l y))) (λ y t. join_grows false l y t) q j in
+    makes_same σ ω x (λ t. after_left right (on_records (λ rs. merge rs left) t).1 (on_records (λ rs. merge rs left) t).0) (on_records (λ rs. merge rs ms)) (λ t. rw (el, er) (whole ms t h))
     (makes_then σ τ ω l x (on_records (λ rs. merge rs left)) (after_left right) (after_grows right) p both)

@@ -13,18 +13,14 @@ use records_append::Made;
 pub fn merge(s: &mut [u32], members: &[u32], m: Marks) -> Made
     ensures { (c : List ℤ) → Makes (st s.old c m) (st s.new c result.marks) result.node (on_records (λ rs. merge rs members.now)) }
 {
-    let n = members.len();
-    if n == 0 {
-        return Made { node: 0, marks: m };
+    match members {
+        [] => Made { node: 0, marks: m },
+        &[node] => Made { node, marks: m },
+        _ => {
+            let (first, others) = members.split_at(members.len() / 2);
+            let a = merge(s, first, m);
+            let b = merge(s, others, a.marks);
+            records_append::join(s, b.marks, false, a.node, b.node)
+        }
     }
-    if n == 1 {
-        return Made {
-            node: members[0],
-            marks: m,
-        };
-    }
-    let h = n / 2;
-    let a = merge(s, &members[..h], m);
-    let b = merge(s, &members[h..], a.marks);
-    records_append::join(s, b.marks, false, a.node, b.node)
 }

@@ -7,7 +7,12 @@ use Prim.Native.Nat.{ℕ}
 use lib.IntN.{ℤ}
 use lib.ListN.{length, take, drop}
 use lib.Seq.{take-append_seam}
+use Rattle.std.specs.Prelude.{Result, Err}
 use Rattle.rules.specs.declared.State.{State}
+use Rattle.rules.specs.declared.Refusal.{Refusal}
+use Rattle.rules.specs.declared.Refusal.TheVariants.{NotWellFormed}
+use Rattle.rules.specs.Refusals.{answer_number, answer_value}
+use Rattle.enforce_answer.specs.Ends.{Answers, Ended}
 use Rattle.rules.specs.Build.{build_of}
 use Rattle.rules.specs.WellFormed.{well_formed}
 use Rattle.rules.specs.Enforce.{EnforceEnd, enforce, enforce_end, refused_end, scratch_short, enforce_ub}
@@ -57,24 +62,16 @@ module _ (s : State) (store : List ℕ) (clauses scratch : List ℤ) (u : ℕ) w
     formed e =
         ap (λ (t : Bool). elim t [ true ↦ enforce_end (enforce (build_of s store) u) scratch | false ↦ refused_end 12 scratch ]) (sym e ∙ test)
 
-    pub refused : b ≡ false →
-        (scratch ≡ (enforce_ub s store clauses scratch u).scratch) ×
-        (12 ≡ (enforce_ub s store clauses scratch u).refusal) ×
-        (0 ≡ length (enforce_ub s store clauses scratch u).answer)
-    unfolding refused_end
+    pub refused : b ≡ false → (scratch ≡ (enforce_ub s store clauses scratch u).scratch) × Answers (enforce_ub s store clauses scratch u) (Err NotWellFormed)
+    unfolding refused_end answer_number answer_value
     refused e = (
       ap (λ (x : EnforceEnd). x.scratch) (not_formed e),
-      ap (λ (x : EnforceEnd). x.refusal) (not_formed e),
-      ap (λ (x : EnforceEnd). length x.answer) (not_formed e),
+      (ap (λ (x : EnforceEnd). x.refusal) (not_formed e), ap (λ (x : EnforceEnd). length x.answer) (not_formed e)),
     )
 
-    pub given : (d : List ℤ) (k n : ℕ) → b ≡ true → d ≡ (enforce_end (enforce (build_of s store) u) scratch).scratch →
-        k ≡ (enforce_end (enforce (build_of s store) u) scratch).refusal → n ≡ length (enforce_end (enforce (build_of s store) u) scratch).answer →
-        (d ≡ (enforce_ub s store clauses scratch u).scratch) ×
-        (k ≡ (enforce_ub s store clauses scratch u).refusal) ×
-        (n ≡ length (enforce_ub s store clauses scratch u).answer)
-    given d k n e p q r = (
-      p ∙ ap (λ (x : EnforceEnd). x.scratch) (formed e),
-      q ∙ ap (λ (x : EnforceEnd). x.refusal) (formed e),
-      r ∙ ap (λ (x : EnforceEnd). length x.answer) (formed e),
+    pub given : (d : List ℤ) (r : Result ℕ Refusal) → b ≡ true → Ended (enforce (build_of s store) u) scratch d r →
+        (d ≡ (enforce_ub s store clauses scratch u).scratch) × Answers (enforce_ub s store clauses scratch u) r
+    given d r e p = (
+      p.0 ∙ ap (λ (x : EnforceEnd). x.scratch) (formed e),
+      (p.1.0 ∙ ap (λ (x : EnforceEnd). x.refusal) (formed e), p.1.1 ∙ ap (λ (x : EnforceEnd). length x.answer) (formed e)),
     )

@@ -1,6 +1,5 @@
 -- An accepted start holds exactly the new build of the combined list; a refused one holds what it was lent.
 use mathlib.Core.Path.{◌≡◌, refl, sym, ap, ap₂, ◌∙◌, subst}
-use mathlib.Core.Bool.{Bool, true, false, cond}
 use mathlib.Core.List.{List, [], ◌++◌, map}
 use Prim.Native.Nat.{ℕ, zero, suc, ◌*◌, ◌-◌, ◌≤◌, max}
 use native.Mathlib.Omega.{arith}
@@ -10,15 +9,16 @@ use lib.Seq.{take_at}
 use lib.IntN.{ℤ, pos}
 use Rattle.rules.specs.declared.State.{State}
 use Rattle.rules.specs.declared.Combined.{Combined}
-use Rattle.rules.specs.declared.Answer.TheVariants.{Accepted, Refused}
+use Rattle.rules.specs.declared.Refusal.{Refusal}
+use Rattle.std.specs.Prelude.{Result, Ok, Err, ⊤}
 use Rattle.rules.specs.Lists.{all, total, padded}
 use Rattle.rules.specs.Numbers.{lawful_weight, capacity}
 use Rattle.rules.specs.Records.{image_of, records_of, literal_word}
 use Rattle.rules.specs.Totalizer.{Arena}
 use Rattle.rules.specs.Combined.{combined_literals, combined_weights}
-use Rattle.rules.specs.Refusals.{first_true, lists_differ, literal_unlawful, weight_unlawful, fresh_unlawful, answer_of}
+use Rattle.rules.specs.Refusals.{answer_of, refusal_of}
 use Rattle.rules.specs.Build.{Build, records, state_of, clause_words, clause_mark, clause_total, variable_total}
-use Rattle.rules.specs.Start.{list_refusal, list_of, checked_end, checked, start_no_room, starting_divisor, new_build, zero_state, start_refusal, start_end, start}
+use Rattle.rules.specs.Start.{list_of, checked_end, starting_divisor, new_build, zero_state, start_refusal, start_end, start}
 use Rattle.laws.specs.Lists.Facts.{and_true, facts_all}
 use Rattle.preserve.specs.Starts.{Lent as Lent-lists, lent}
 use Rattle.records.specs.declared.Marks.{Marks}
@@ -136,7 +136,7 @@ front : {A : Type 0} (z : A) (xs : List A) (n : ℕ) → n ≡ length xs → tak
 unfolding padded
 front z xs n e = take_at xs (replicate (256 - length xs) z) n (sym e)
 
-pub listed : (list : Combined) (lits : List ℤ) (weights : List ℕ) → list ≡ list_of 0 lits weights → length lits ≡ length weights →
+pub listed : (list : Combined) (lits : List ℤ) (weights : List ℕ) → list ≡ list_of lits weights → length lits ≡ length weights →
     (take list.used list.literals ≡ map literal_word lits) × (take list.used list.weights ≡ weights)
 unfolding list_of
 listed list lits weights e same = (
@@ -144,31 +144,34 @@ listed list lits weights e same = (
   ap (λ (l : Combined). take l.used l.weights) e ∙ front 0 weights (length lits) same,
 )
 
-pub begun_list : (list : Combined) (lits : List ℤ) (weights : List ℕ) (first : ℕ) (store : List ℕ) (a : State) (s : List ℕ) → list ≡ list_of 0 lits weights → Lent-lists lits weights first store →
+pub begun_list : (list : Combined) (lits : List ℤ) (weights : List ℕ) (first : ℕ) (store : List ℕ) (a : State) (s : List ℕ) → list ≡ list_of lits weights → Lent-lists lits weights first store →
     ((xs : List ℤ) → take list.used list.literals ≡ map literal_word xs → Lent-lists xs (take list.used list.weights) first store →
     Begun (new_build xs (take list.used list.weights) first) store a s) → Begun (new_build lits weights first) store a s
 begun_list list lits weights first store a s e l f =
     let (ls, ws) = listed list lits weights e l.lengths in
     subst (λ (v : List ℕ). Begun (new_build lits v first) store a s) ws (f lits ls (subst (λ (v : List ℕ). Lent-lists lits v first store) (sym ws) l))
 
+-- what a checked list says of the refusals of start
+ended_ok : (n : ℕ) (lits : List ℤ) (weights : List ℕ) (list : Combined) → Ok list ≡ checked_end n lits weights → (n ≡ 0) × (list ≡ list_of lits weights)
+unfolding checked_end
+ended_ok zero lits weights list e = (refl, cc)
+ended_ok (suc n) lits weights list e = absurd (cc)
+
+ended_err : (n : ℕ) (lits : List ℤ) (weights : List ℕ) (r : Refusal) → Err r ≡ checked_end n lits weights → (k : ℕ) × (n ≡ suc k) × (Err r ≡ answer_of (suc k))
+unfolding checked_end answer_of
+ended_err zero lits weights r e = absurd (cc)
+ended_err (suc n) lits weights r e = let same : r ≡ refusal_of (suc n) = cc in (n, refl, ap (λ (q : Refusal). Err q) same)
+
 -- the list of an accepted start
-module _ (lits : List ℤ) (weights : List ℕ) (first : ℕ) (store : List ℕ) (list : Combined) (is : list ≡ checked lits weights) (n : ℕ) (from : n ≡ start_refusal lits weights first store) (none : n ≡ 0) where
+module _ (lits : List ℤ) (weights : List ℕ) (first : ℕ) (store : List ℕ) (list : Combined) (is : Ok list ≡ checked_end (start_refusal lits weights first store) (combined_literals lits) (combined_weights lits weights)) where
+  pub none : start_refusal lits weights first store ≡ 0
+  none = (ended_ok (start_refusal lits weights first store) (combined_literals lits) (combined_weights lits weights) list is).0
+
+  pub list_is : list ≡ list_of (combined_literals lits) (combined_weights lits weights)
+  list_is = (ended_ok (start_refusal lits weights first store) (combined_literals lits) (combined_weights lits weights) list is).1
+
   pub given : Lent-lists (combined_literals lits) (combined_weights lits weights) first store
-  given = lent lits weights first store (sym from ∙ none)
-
-  no_list_refusal : list_refusal lits weights ≡ 0
-  unfolding start_refusal list_refusal first_true
-  no_list_refusal = go (lists_differ lits weights) (literal_unlawful lits) (weight_unlawful lits weights) (sym from ∙ none)
-    where
-      go : (a b c : Bool) → ◌≡◌ {A = ℕ} (cond a 1 (cond b 2 (cond c 4 (cond (fresh_unlawful lits first) 5 (cond (start_no_room lits store) 7 0))))) 0 → ◌≡◌ {A = ℕ} (cond a 1 (cond b 2 (cond c 4 0))) 0
-      go true b c e = absurd (omega arith)
-      go false true c e = absurd (omega arith)
-      go false false true e = absurd (omega arith)
-      go false false false e = refl
-
-  pub list_is : list ≡ list_of 0 (combined_literals lits) (combined_weights lits weights)
-  unfolding checked checked_end
-  list_is = is ∙ ap (λ (k : ℕ). checked_end k (combined_literals lits) (combined_weights lits weights)) no_list_refusal
+  given = lent lits weights first store none
 
   pub inputs : Inputs list
   unfolding list_of lawful_weight padded
@@ -186,21 +189,21 @@ module _ (lits : List ℤ) (weights : List ℕ) (first : ℕ) (store : List ℕ)
       inside xs slots e h = omega (arith, ap length e, length-append xs (replicate (256 - length xs) 0))
 
 -- the answers
-pub accepted : (lits : List ℤ) (weights : List ℕ) (first : ℕ) (store s : List ℕ) (clauses c : List ℤ) (a : State) (n : ℕ) → n ≡ start_refusal lits weights first store → n ≡ 0 →
+pub accepted : (lits : List ℤ) (weights : List ℕ) (first : ℕ) (store s : List ℕ) (clauses c : List ℤ) (a : State) → start_refusal lits weights first store ≡ 0 →
     Begun (new_build (combined_literals lits) (combined_weights lits weights) first) store a s → c ≡ padded (pos 0) (length clauses) [] →
-    record { answer = record { answer = Accepted; state = a }; store = s; clauses = c } ≡ start lits weights first store clauses
+    record { answer = record { answer = Ok tt; state = a }; store = s; clauses = c } ≡ start lits weights first store clauses
 unfolding start start_end answer_of
-accepted lits weights first store s clauses c a n e z h r =
+accepted lits weights first store s clauses c a z h r =
     let b : Build = new_build (combined_literals lits) (combined_weights lits weights) first in
-    ap (λ (x : State). record { answer = record { answer = Accepted; state = x }; store = s; clauses = c }) h.state_is ∙
-    (ap₂ (λ x y. record { answer = record { answer = Accepted; state = state_of b }; store = x; clauses = y }) h.store_is r ∙
-    sym (ap (λ (k : ℕ). start_end k b store clauses) (sym e ∙ z)))
+    ap (λ (x : State). record { answer = record { answer = Ok tt; state = x }; store = s; clauses = c }) h.state_is ∙
+    (ap₂ (λ x y. record { answer = record { answer = Ok tt; state = state_of b }; store = x; clauses = y }) h.store_is r ∙
+    sym (ap (λ (k : ℕ). start_end k b store clauses) z))
 
-pub refused : (lits : List ℤ) (weights : List ℕ) (first : ℕ) (store : List ℕ) (clauses : List ℤ) (a : State) (n : ℕ) → n ≡ start_refusal lits weights first store →
-    (n ≡ 0 → ⊥) → a ≡ state_with 0 0 0 0 0 →
-    record { answer = record { answer = Refused n; state = a }; store = store; clauses = clauses } ≡ start lits weights first store clauses
-unfolding start start_end answer_of zero_state state_with
-refused lits weights first store clauses a zero e z p = absurd (z refl)
-refused lits weights first store clauses a (suc n) e z p =
-    ap (λ (x : State). record { answer = record { answer = Refused (suc n); state = x }; store = store; clauses = clauses }) p ∙
-    ap (λ (k : ℕ). start_end k (new_build (combined_literals lits) (combined_weights lits weights) first) store clauses) e
+pub refused : (lits : List ℤ) (weights : List ℕ) (first : ℕ) (store : List ℕ) (clauses : List ℤ) (a : State) (r : Refusal) →
+    Err r ≡ checked_end (start_refusal lits weights first store) (combined_literals lits) (combined_weights lits weights) → a ≡ state_with 0 0 0 0 0 →
+    record { answer = record { answer = Err r; state = a }; store = store; clauses = clauses } ≡ start lits weights first store clauses
+unfolding start start_end zero_state state_with
+refused lits weights first store clauses a r e p =
+    let (n, z, f) = ended_err (start_refusal lits weights first store) (combined_literals lits) (combined_weights lits weights) r e in
+    ap₂ (λ (x : State) (y : Result ⊤ Refusal). record { answer = record { answer = y; state = x }; store = store; clauses = clauses }) p f ∙
+    sym (ap (λ (k : ℕ). start_end k (new_build (combined_literals lits) (combined_weights lits weights) first) store clauses) z)

@@ -2,13 +2,15 @@
 use mathlib.Core.Path.{◌≡◌, refl, sym, ap, ◌∙◌}
 use mathlib.Core.Bool.{Bool, true}
 use mathlib.Core.List.{List, [], ◌∷◌, ◌++◌, map, zip_with, append_assoc, append-nil}
-use Prim.Native.Nat.{ℕ, zero, suc, ◌+◌, ◌*◌, ◌^◌, ◌%◌, ◌≤◌, ◌<◌, max}
+use Prim.Native.Nat.{ℕ, zero, suc, ◌+◌, ◌*◌, ◌^◌, ◌%◌, ◌≤◌, ◌<◌}
 use native.Mathlib.Nat.{mod-eq_of_lt}
 use native.Mathlib.Omega.{arith}
 use borrow.Author.Tests.{leb-true}
 use lib.Dec.{leb}
-use lib.ListN.{length, get_or, take, drop, drop_of_length-le, length-map}
-use lib.Seq.{take-suc, take_all, drop-cons}
+use Rattle.std.specs.List.{sum}
+use Rattle.std.proofs.lemmas.List.Recursion.{is_sum_by}
+use lib.ListN.{length, get_or, take, length-map}
+use lib.Seq.{take-suc, take_all}
 use lib.IntN.{ℤ, pos}
 use lib.Pow.{pow-lt}
 use Rattle.rules.specs.Lists.{all, total, rising}
@@ -142,26 +144,13 @@ total_small (w ∷ ws) h =
 pub total_few : (ws : List ℕ) → all lawful_weight ws ≡ true → length ws ≤ 256 → total ws ≤ 268435200
 total_few ws h k = omega (arith, total_small ws h)
 
-pub total_here : (ws : List ℕ) (i : ℕ) → i < length ws → total (drop i ws) ≡ get_or ws i 0 + total (drop (i + 1) ws)
+-- what the library's `sum` adds
+pub total_sum : (ws : List ℕ) → sum ws ≡ total ws
 unfolding total
-total_here ws i h =
-    let up : suc i ≡ i + 1 = omega arith in
-    ap total (drop-cons ws i 0 h) ∙ ap (λ (k : ℕ). get_or ws i 0 + total (drop k ws)) up
+total_sum ws = sym (is_sum_by total (λ x. x) refl (λ _ _. refl) ws)
 
-pub total_none : (ws : List ℕ) (i : ℕ) → length ws ≤ i → total (drop i ws) ≡ 0
-unfolding total
-total_none ws i h = ap total (drop_of_length-le ws h)
-
--- the largest, from place i on
-pub heaviest_here : (ws : List ℕ) (i : ℕ) → i < length ws → heaviest (drop i ws) ≡ max (get_or ws i 0) (heaviest (drop (i + 1) ws))
-unfolding heaviest
-heaviest_here ws i h =
-    let up : suc i ≡ i + 1 = omega arith in
-    ap heaviest (drop-cons ws i 0 h) ∙ ap (λ (k : ℕ). max (get_or ws i 0) (heaviest (drop k ws))) up
-
-pub heaviest_none : (ws : List ℕ) (i : ℕ) → length ws ≤ i → heaviest (drop i ws) ≡ 0
-unfolding heaviest
-heaviest_none ws i h = ap heaviest (drop_of_length-le ws h)
+pub sum_few : (ws : List ℕ) → all lawful_weight ws ≡ true → length ws ≤ 256 → sum ws < 2 ^ 64
+sum_few ws h k = omega (arith, total_sum ws, total_few ws h k)
 
 pub starting_at : (ws : List ℕ) (most bit power : ℕ) → most ≡ heaviest ws → bit ≡ top_bit most → bit < 64 → power ≡ 2 ^ bit % 2 ^ 64 → power ≡ starting_divisor ws
 unfolding starting_divisor

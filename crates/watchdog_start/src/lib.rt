@@ -1,7 +1,7 @@
 // Start: a build over lent words, or a refusal that writes nothing.
 #![tactic(auto)]
 
-ghost use Rattle.std.specs.Prelude.{◌≡◌, true, List, [], map, ℕ, ◌≤◌, max, length, ℤ, pos};
+ghost use Rattle.std.specs.Prelude.{◌≡◌, true, List, [], map, ℕ, ◌≤◌, length, ℤ, pos};
 ghost use Rattle.rules.specs.Lists.{all, total, padded};
 ghost use Rattle.rules.specs.Numbers.{lawful_weight};
 ghost use Rattle.rules.specs.Records.{literal_word};
@@ -11,7 +11,7 @@ ghost use Rattle.records.specs.Carries.{st, Steps};
 ghost use Rattle.watchdog_start.specs.Writing.{with_more, leaf_records, wait_records, blank_marks, state_with, Begun, Inputs};
 
 use records::Marks;
-use rules::{Answer, Combined, Started, State};
+use rules::{Combined, Started, State};
 
 // The words of an input: a leaf and a waiting entry.
 const INPUT_WORDS: usize = 2 * records::WORDS;
@@ -30,32 +30,26 @@ fn blank(first: u32) -> Marks
 }
 
 // A leaf for each literal, given by its word. Linear.
-fn leaves(s: &mut [u32], m: Marks, literals: &[u32]) -> Marks
+fn leaves(s: &mut [u32], mut m: Marks, literals: &[u32]) -> Marks
     ensures { (lits : List ℤ) → literals.now ≡ map literal_word lits → (c : List ℤ) →
         Steps (st s.old c m) (st s.new c result) (with_more (leaf_records lits)) }
 {
-    let mut z = m;
-    let mut i: usize = 0;
-    while i < literals.len() {
-        let leaf = records_append::leaf(s, z, literals[i]);
-        z = leaf.marks;
-        i += 1;
+    for literal in literals {
+        let leaf = records_append::leaf(s, m, *literal);
+        m = leaf.marks;
     }
-    z
+    m
 }
 
 // Each leaf waiting with its weight. Linear.
-fn waits(s: &mut [u32], m: Marks, weights: &[u64]) -> Marks
+fn waits(s: &mut [u32], mut m: Marks, weights: &[u64]) -> Marks
     requires { (all lawful_weight weights.now ≡ true) × (length weights.now ≤ 256) }
     ensures { (c : List ℤ) → Steps (st s.old c m) (st s.new c result) (with_more (wait_records weights.now)) }
 {
-    let mut z = m;
-    let mut i: usize = 0;
-    while i < weights.len() {
-        z = records_append::waiting(s, z, i as u32, weights[i] as u32);
-        i += 1;
+    for (i, weight) in weights.iter().enumerate() {
+        m = records_append::waiting(s, m, i as u32, *weight as u32);
     }
-    z
+    m
 }
 
 // The weights added up. Linear.
@@ -63,36 +57,14 @@ fn sum(weights: &[u64]) -> u64
     requires { (all lawful_weight weights.now ≡ true) × (length weights.now ≤ 256) }
     ensures { result ≡ total weights.now }
 {
-    let mut t: u64 = 0;
-    let mut i: usize = 0;
-    while i < weights.len() {
-        t += weights[i];
-        i += 1;
-    }
-    t
-}
-
-// The larger number. Constant time.
-fn larger(x: u64, y: u64) -> u64
-    ensures { result ≡ max x y }
-{
-    if x < y {
-        return y;
-    }
-    x
+    weights.iter().sum()
 }
 
 // The largest weight, 0 where there is none. Linear.
 fn heaviest(weights: &[u64]) -> u64
     ensures { result ≡ heaviest weights.now }
 {
-    let mut most: u64 = 0;
-    let mut i: usize = 0;
-    while i < weights.len() {
-        most = larger(most, weights[i]);
-        i += 1;
-    }
-    most
+    weights.iter().fold(0, |most, w| most.max(*w))
 }
 
 // The divisor that a new build starts at. Linear.
@@ -153,14 +125,17 @@ fn begin(
 // A new build of the combined list. Growth as that of `begin`.
 fn begin_list(list: Combined, first: u32, store: &mut [u32], clauses: &mut [i32]) -> State
     requires { Inputs list }
-    ensures begun { (lits : List ℤ) (weights : List ℕ) → list ≡ list_of 0 lits weights → Lent lits weights first store.old →
+    ensures begun { (lits : List ℤ) (weights : List ℕ) → list ≡ list_of lits weights → Lent lits weights first store.old →
         Begun (new_build lits weights first) store.old result store.new }
     ensures clauses { clauses.new ≡ padded (pos 0) (length clauses.old) [] }
 {
-    let literals = list.literals;
-    let weights = list.weights;
-    let n = list.used;
-    begin(&literals[..n], &weights[..n], first, store, clauses)
+    begin(
+        &list.literals[..list.used],
+        &list.weights[..list.used],
+        first,
+        store,
+        clauses,
+    )
 }
 
 // Start. Linear in the lists and the lent words, but for combining the lines, which is quadratic over at most 256; a refusal
@@ -174,16 +149,14 @@ pub fn start(
 ) -> Started
     ensures { record { answer = result; store = store.new; clauses = clauses.new } ≡ start lits.now weights.now first store.old clauses.old }
 {
-    let list = start_lists::check_list(lits, weights);
-    let n = start_lists::refusal(lits, weights, first, store, list);
-    if n == 0 {
-        return Started {
-            answer: Answer::Accepted,
+    match start_lists::checked_list(lits, weights, first, store) {
+        Ok(list) => Started {
+            answer: Ok(()),
             state: begin_list(list, first, store, clauses),
-        };
-    }
-    Started {
-        answer: Answer::Refused(n),
-        state: state(0, 0, 0, 0, 0),
+        },
+        Err(refusal) => Started {
+            answer: Err(refusal),
+            state: state(0, 0, 0, 0, 0),
+        },
     }
 }

@@ -4,11 +4,6 @@ use native.Mathlib.Omega.{arith}
 use Rattle.build_queue.proofs.Members.{counts_beyond}
 use Rattle.build_tower.proofs.queued.Goals as goal
 
-pub enqueue-requires : goal.enqueue-requires
-enqueue-requires c =
-    let pre = c.requires in
-    (pre.0, pre.1, omega (arith, pre.2, c.clear_counts.ensures.1))
-
 pub returns : goal.returns
 returns c =
     let enqueue = c.enqueue in

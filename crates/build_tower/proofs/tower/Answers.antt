@@ -15,7 +15,7 @@ pub buckets_over-b-requires : goal.buckets_over-b-requires
 buckets_over-b-requires c =
     let gather = c.gather-g in
     let pre = c.requires in
-    (pre.2, pre.3, pre.4, gather.ensures.1.long, λ k h. queued_count _ _ k gather.ensures.1 (omega (arith, pre.3)), pre.5 (c.numbers-a.ensures.within c.if-a.false))
+    (pre.2, pre.3, gather.ensures.1.long, λ k h. queued_count _ _ k gather.ensures.1 (omega (arith, pre.3)), pre.4 (c.numbers-a.ensures.within c.if-a.false))
 
 pub returns : goal.returns
 returns c =

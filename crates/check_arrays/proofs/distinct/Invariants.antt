@@ -1,12 +1,8 @@
 -- `distinct` tests each number against those after it.
 use mathlib.Core.Path.{◌≡◌}
-use Prim.Native.Nat.{◌-◌, ◌≤◌}
-use lib.ListN.{length, drop}
+use lib.ListN.{drop}
 use Rattle.rules.specs.Lists.{distinct}
 use Rattle.check_arrays.proofs.distinct.Given as goal
 
 abbrev pub invariant-loop-i : goal.invariant-loop-i
-invariant-loop-i l = (distinct (drop l.i l.xs) ≡ distinct l.xs) × (l.i ≤ length l.xs)
-
-abbrev pub decreases-loop-i : goal.decreases-loop-i
-decreases-loop-i l = length l.xs - l.i
+invariant-loop-i l = distinct (drop l.i l.xs) ≡ distinct l.xs

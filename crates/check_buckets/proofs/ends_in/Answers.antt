@@ -1,19 +1,29 @@
 -- `ends_in` tests the node that the last bucket links.
-use mathlib.Core.Path.{sym, ◌∙◌}
-use Rattle.check_buckets.proofs.Buckets.{ends_none, ends_idle, ends_whole, ends_halved}
+use mathlib.Core.Path.{sym, ap, ◌∙◌}
+use mathlib.Core.Bool.{Bool, not}
+use Prim.Native.Nat.{ℕ}
+use Rattle.rules.specs.Records.{node_at}
+use Rattle.rules.specs.WellFormed.{is_dummy, ends_in}
+use Rattle.check_arrays.proofs.Walk.{then_and, else_and}
+use Rattle.check_buckets.proofs.Buckets.{ends_waiting, ends_idle}
 use Rattle.check_buckets.proofs.ends_in.Goals as goal
 
-pub returns-then-not-is_join : goal.returns-then-not-is_join
-returns-then-not-is_join c = λ rs h. ends_none rs _ _ (sym (c.is_join.ensures rs h) ∙ c.if-not-is_join.true)
+pub returns-then-halved : goal.returns-then-halved
+returns-then-halved c =
+    λ rs h.
+    let links = c.is_dummy-dummy.ensures rs h ∙ ap (λ (n : ℕ). is_dummy (node_at rs n).kind) (c.right.ensures rs h) in
+    then_and _ _ (c.halved.ensures rs h) c.if-halved.true links ∙ (ends_waiting rs _ ∙ ap (λ (w : Bool). ends_in rs w (node_at rs c.args.b).kind) (sym c.if-wait.true))
 
-pub returns-then-not-wait : goal.returns-then-not-wait
-returns-then-not-wait c =
-    λ rs h. ends_idle rs _ (sym (c.is_join.ensures rs h) ∙ c.if-not-is_join.false) _ (c.right.ensures rs h) _ (c.is_dummy-d.ensures rs h) _ (c.if-not-wait.true)
+pub returns-else-halved : goal.returns-else-halved
+returns-else-halved c =
+    λ rs h. else_and _ _ (c.halved.ensures rs h) c.if-halved.false ∙ (ends_waiting rs _ ∙ ap (λ (w : Bool). ends_in rs w (node_at rs c.args.b).kind) (sym c.if-wait.true))
 
-pub returns-then-not-halved : goal.returns-then-not-halved
-returns-then-not-halved c =
-    λ rs h. ends_whole rs _ (sym (c.is_join.ensures rs h) ∙ c.if-not-is_join.false) _ (c.right.ensures rs h) _ (c.is_dummy-d.ensures rs h) _ (c.if-not-wait.false) (sym (c.halved.ensures rs h) ∙ c.if-not-halved.true)
+pub returns-then-is_join : goal.returns-then-is_join
+returns-then-is_join c =
+    λ rs h.
+    let links = c.is_dummy-dummy.ensures rs h ∙ ap (λ (n : ℕ). is_dummy (node_at rs n).kind) (c.right.ensures rs h) in
+    then_and _ _ (c.is_join.ensures rs h) c.if-is_join.true (ap not links) ∙ (ends_idle rs _ ∙ ap (λ (w : Bool). ends_in rs w (node_at rs c.args.b).kind) (sym c.if-wait.false))
 
-pub returns : goal.returns
-returns c =
-    λ rs h. ends_halved rs _ (sym (c.is_join.ensures rs h) ∙ c.if-not-is_join.false) _ (c.right.ensures rs h) _ (c.is_dummy-d.ensures rs h) _ (c.if-not-wait.false) (sym (c.halved.ensures rs h) ∙ c.if-not-halved.false)
+pub returns-else-is_join : goal.returns-else-is_join
+returns-else-is_join c =
+    λ rs h. else_and _ _ (c.is_join.ensures rs h) c.if-is_join.false ∙ (ends_idle rs _ ∙ ap (λ (w : Bool). ends_in rs w (node_at rs c.args.b).kind) (sym c.if-wait.false))

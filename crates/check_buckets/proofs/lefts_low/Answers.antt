@@ -1,18 +1,14 @@
-use mathlib.Core.Path.{refl, sym, ◌∙◌}
-use native.Mathlib.Omega.{arith}
-use Rattle.check_buckets.proofs.Buckets.{lefts_on, lefts_stop, lefts_end}
+use mathlib.Core.Path.{refl, ◌∙◌}
+use borrow.Author.Tests.{tests}
+use Rattle.std.proofs.Common.{rules}
+use Rattle.std.proofs.lemmas.Iterator.{YieldsList-from_slice}
+use Rattle.std.proofs.lemmas.Iterator.Search.{all_from_yields_List}
+use Rattle.check_arrays.proofs.Chains.{all_is}
+use Rattle.check_buckets.specs.Links.{left_low}
 use Rattle.check_buckets.proofs.lefts_low.Goals as goal
 
-pub loop-j-init : goal.loop-j-init
-loop-j-init c = (λ rs h. refl, omega arith)
-
-pub returns-then-not-left_low : goal.returns-then-not-left_low
-returns-then-not-left_low c =
-    λ rs h. lefts_stop rs _ _ _ (c.loop-j.invariant.0 rs h) c.loop-j-test.true (sym (c.left_low.ensures rs h) ∙ c.if-not-left_low.true)
-
-pub loop-j-preserved : goal.loop-j-preserved
-loop-j-preserved c =
-    (λ rs h. lefts_on rs _ _ _ (c.loop-j.invariant.0 rs h) c.loop-j-test.true (sym (c.left_low.ensures rs h) ∙ c.if-not-left_low.false), omega arith)
-
 pub returns : goal.returns
-returns c = λ rs h. lefts_end rs _ _ _ (c.loop-j.invariant.0 rs h) c.loop-j-test.false
+unfolding left_low
+returns c =
+    let bs = c.args.buckets.now in
+    λ rs h. all_from_yields_List (left_low rs) _ _ _ c.all.ensures.ran (YieldsList-from_slice bs (cc)) (λ x b q k. search (rules, tests)) ∙ all_is (left_low rs) (left_low rs) (λ b. refl) bs

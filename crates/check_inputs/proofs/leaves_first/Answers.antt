@@ -1,18 +1,18 @@
-use mathlib.Core.Path.{sym, ◌∙◌}
+use mathlib.Core.Path.{◌∙◌}
+use Prim.Native.Nat.{ℕ}
 use native.Mathlib.Omega.{arith}
-use Rattle.check_arrays.proofs.Walk.{walk_start, walk_on, walk_stop, walk_end}
+use borrow.Author.Tests.{tests}
+use Rattle.std.proofs.Common.{rules}
+use Rattle.std.proofs.lemmas.Iterator.{YieldsList-from_range}
+use Rattle.std.proofs.lemmas.Iterator.Search.{all_from_yields_List}
+use Rattle.rules.specs.Records.{node_at}
+use Rattle.rules.specs.WellFormed.{is_leaf}
+use Rattle.check_arrays.proofs.Chains.{range_all}
 use Rattle.check_inputs.proofs.leaves_first.Goals as goal
 
-pub loop-i-init : goal.loop-i-init
-loop-i-init c = (λ rs h. walk_start _ _, omega arith)
-
-pub returns-then-not-is_leaf : goal.returns-then-not-is_leaf
-returns-then-not-is_leaf c =
-    λ rs h. walk_stop _ _ _ _ c.loop-i-test.true (sym (c.is_leaf.ensures rs h) ∙ c.if-not-is_leaf.true) (c.loop-i.invariant.0 rs h)
-
-pub loop-i-preserved : goal.loop-i-preserved
-loop-i-preserved c =
-    (λ rs h. walk_on _ _ _ _ c.loop-i-test.true (sym (c.is_leaf.ensures rs h) ∙ c.if-not-is_leaf.false) (c.loop-i.invariant.0 rs h), omega arith)
-
 pub returns : goal.returns
-returns c = λ rs h. walk_end _ _ _ _ c.loop-i-test.false (c.loop-i.invariant.0 rs h)
+returns c =
+    let inputs = c.args.inputs in
+    λ rs h.
+    let test = λ (i : ℕ). is_leaf (node_at rs i).kind in
+    all_from_yields_List test _ _ _ c.all.ensures.ran (YieldsList-from_range 0 inputs inputs (cc) (omega arith)) (λ x b q k. search (rules, tests)) ∙ range_all test inputs 0

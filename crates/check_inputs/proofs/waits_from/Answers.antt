@@ -1,25 +1,20 @@
-use mathlib.Core.Path.{refl, sym, ◌∙◌, subst}
-use Prim.Native.Nat.{ℕ, ◌≤◌, ◌<◌}
+use mathlib.Core.Path.{◌∙◌}
+use Prim.Native.Nat.{ℕ, ◌-◌}
+use borrow.Author.Tests.{tests}
+use Rattle.std.proofs.Common.{rules}
+use Rattle.std.proofs.lemmas.Iterator.{YieldsList-from_range}
+use Rattle.std.proofs.lemmas.Iterator.Search.{any_from_yields_List}
+use lib.ListN.{get_or}
 use Rattle.rules.specs.Records.{unknown}
-use Rattle.check_arrays.proofs.Walk.{search_on, search_hit, search_end}
+use Rattle.check_arrays.proofs.Chains.{range_any}
 use Rattle.check_inputs.specs.Steps.{is_entry, waits_in}
 use Rattle.check_inputs.proofs.waits_from.Goals as goal
 
-pub loop-i-init : goal.loop-i-init
-unfolding waits_in
-loop-i-init c = λ rs h. refl
-
-pub returns-then-is_entry : goal.returns-then-is_entry
-returns-then-is_entry c =
-    let loop = c.loop-i in
-    λ rs h. search_hit (is_entry c.args.n) unknown rs _ _ (loop.invariant rs h) (subst (λ (n : ℕ). loop.i < n) h.count_is c.loop-i-test.true) (sym (c.is_entry.ensures rs h) ∙ c.if-is_entry.true)
-
-pub loop-i-preserved : goal.loop-i-preserved
-loop-i-preserved c =
-    let loop = c.loop-i in
-    λ rs h. search_on (is_entry c.args.n) unknown rs _ _ (loop.invariant rs h) (subst (λ (n : ℕ). loop.i < n) h.count_is c.loop-i-test.true) (sym (c.is_entry.ensures rs h) ∙ c.if-is_entry.false)
-
 pub returns : goal.returns
+unfolding waits_in
 returns c =
-    let loop = c.loop-i in
-    λ rs h. search_end (is_entry c.args.n) unknown rs _ _ (loop.invariant rs h) (subst (λ (n : ℕ). n ≤ loop.i) h.count_is c.loop-i-test.false)
+    let from = c.args.from in
+    let to = c.args.store.records in
+    λ rs h.
+    let test = λ (i : ℕ). is_entry c.args.n (get_or rs i unknown) in
+    any_from_yields_List test _ _ _ c.any.ensures.ran (YieldsList-from_range from to (to - from) (cc) (cc)) (λ x b q k. search (rules, tests)) ∙ range_any (is_entry c.args.n) unknown rs to from h.count_is

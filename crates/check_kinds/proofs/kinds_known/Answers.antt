@@ -1,19 +1,16 @@
-use mathlib.Core.Path.{sym, ◌∙◌}
+use mathlib.Core.Path.{◌∙◌}
 use native.Mathlib.Omega.{arith}
-use Rattle.check_arrays.proofs.Walk.{walk_on, walk_stop, walk_end}
-use Rattle.check_kinds.proofs.Known.{known_start}
+use borrow.Author.Tests.{tests}
+use Rattle.std.proofs.Common.{rules}
+use Rattle.std.proofs.lemmas.Iterator.{YieldsList-from_range}
+use Rattle.std.proofs.lemmas.Iterator.Search.{all_from_yields_List}
+use Rattle.check_arrays.proofs.Chains.{range_all}
+use Rattle.check_kinds.specs.Words.{known_at}
+use Rattle.check_kinds.proofs.Known.{all_known}
 use Rattle.check_kinds.proofs.kinds_known.Goals as goal
 
-pub loop-i-init : goal.loop-i-init
-loop-i-init c = (λ h. known_start _ _ h, omega arith)
-
-pub returns-then-not-known_at : goal.returns-then-not-known_at
-returns-then-not-known_at c =
-    λ h. walk_stop _ _ _ _ c.loop-i-test.true (sym c.known_at.ensures ∙ c.if-not-known_at.true) (c.loop-i.invariant.0 h)
-
-pub loop-i-preserved : goal.loop-i-preserved
-loop-i-preserved c =
-    (λ h. walk_on _ _ _ _ c.loop-i-test.true (sym c.known_at.ensures ∙ c.if-not-known_at.false) (c.loop-i.invariant.0 h), omega arith)
-
 pub returns : goal.returns
-returns c = λ h. walk_end _ _ _ _ c.loop-i-test.false (c.loop-i.invariant.0 h)
+returns c =
+    let n = c.args.store.records in
+    let test = known_at c.args.store.words.now n in
+    λ room. all_from_yields_List test _ _ _ c.all.ensures.ran (YieldsList-from_range 0 n n (cc) (omega arith)) (λ x b q k. search (rules, tests)) ∙ (range_all test n 0 ∙ all_known _ n room)

@@ -1,15 +1,26 @@
 -- `defines` compares node and value of an output.
-use mathlib.Core.Path.{sym, ◌∙◌}
-use Rattle.check_outputs.proofs.Outputs.{none_other, output_elsewhere, output_here}
+use lib.ListN.{get_or}
+use native.Mathlib.Omega.{arith}
+use Rattle.rules.specs.Records.{unknown}
+use Rattle.check_outputs.proofs.Outputs.{defines_by}
 use Rattle.check_outputs.proofs.defines.Goals as goal
-
-pub returns-then-not-is_output : goal.returns-then-not-is_output
-returns-then-not-is_output c = λ rs h. none_other _ (sym (c.is_output.ensures rs h) ∙ c.if-not-is_output.true) _ _
+use Rattle.check_outputs.proofs.defines.Goals.{then-is_output, else-is_output}
 
 pub returns-then-output_node-n : goal.returns-then-output_node-n
-returns-then-output_node-n c =
-    λ rs h. output_elsewhere _ (sym (c.is_output.ensures rs h) ∙ c.if-not-is_output.false) _ (c.output_node.ensures rs h) _ _ c.if-output_node-n.true
+returns-then-output_node-n c = λ rs h.
+    let r = get_or rs c.args.i unknown in
+    let e = c.is_output.ensures rs h in
+    let f = c.output_value.ensures rs h in
+    elim c.if-is_output.branch [
+      | then-is_output w ↦ let g = w.output_node.ensures rs h in grind (arith, defines_by r c.args.n c.args.v)
+      | else-is_output w ↦ grind (arith, defines_by r c.args.n c.args.v)
+    ]
 
-pub returns : goal.returns
-returns c =
-    λ rs h. output_here _ (sym (c.is_output.ensures rs h) ∙ c.if-not-is_output.false) _ (c.output_node.ensures rs h) _ _ _ c.if-output_node-n.false (c.output_value.ensures rs h)
+pub returns-else-output_node-n : goal.returns-else-output_node-n
+returns-else-output_node-n c = λ rs h.
+    let r = get_or rs c.args.i unknown in
+    let e = c.is_output.ensures rs h in
+    elim c.if-is_output.branch [
+      | then-is_output w ↦ let g = w.output_node.ensures rs h in grind (arith, defines_by r c.args.n c.args.v)
+      | else-is_output w ↦ grind (arith, defines_by r c.args.n c.args.v)
+    ]

@@ -6,14 +6,13 @@ use Rattle.check_outputs.proofs.record_cost.Goals as goal
 pub returns-then-not-is_waiting : goal.returns-then-not-is_waiting
 returns-then-not-is_waiting c = λ rs h. cost_other rs _ _ (sym (c.is_waiting.ensures rs h) ∙ c.if-not-is_waiting.true)
 
-pub returns-then-cost-eq-COUNT : goal.returns-then-cost-eq-COUNT
-returns-then-cost-eq-COUNT c =
-    λ rs h. cost_count rs _ _ (sym (c.is_waiting.ensures rs h) ∙ c.if-not-is_waiting.false) c.if-cost-eq-COUNT.true
+pub returns-in-Count : goal.returns-in-Count
+returns-in-Count c = λ rs h. cost_count rs _ _ (sym (c.is_waiting.ensures rs h) ∙ c.if-not-is_waiting.false) c.in-Count.is
 
-pub returns-then-cost-eq-MAXIMUM : goal.returns-then-cost-eq-MAXIMUM
-returns-then-cost-eq-MAXIMUM c =
-    λ rs h. cost_maximum rs _ _ (sym (c.is_waiting.ensures rs h) ∙ c.if-not-is_waiting.false) c.if-cost-eq-MAXIMUM.true _ _ (c.entry_node.ensures rs h) (c.maximum.ensures rs h)
+pub returns-in-Maximum : goal.returns-in-Maximum
+returns-in-Maximum c =
+    λ rs h. c.from.ensures ∙ cost_maximum rs _ _ (sym (c.is_waiting.ensures rs h) ∙ c.if-not-is_waiting.false) c.in-Maximum.is _ _ (c.entry_node.ensures rs h) (c.maximum.ensures rs h)
 
-pub returns : goal.returns
-returns c =
-    λ rs h. cost_weight rs _ _ (sym (c.is_waiting.ensures rs h) ∙ c.if-not-is_waiting.false) c.if-cost-eq-COUNT.false c.if-cost-eq-MAXIMUM.false _ (c.entry_weight.ensures rs h)
+pub returns-in-Weight : goal.returns-in-Weight
+returns-in-Weight c =
+    λ rs h. c.from-in-Weight.ensures ∙ cost_weight rs _ _ (sym (c.is_waiting.ensures rs h) ∙ c.if-not-is_waiting.false) c.in-Weight.is _ (c.entry_weight.ensures rs h)

@@ -1,6 +1,7 @@
 -- `costs_few` asks whether the budget was overspent.
+use mathlib.Core.Path.{◌∙◌}
 use Rattle.check_well_formed.proofs.Ways.{few_is}
 use Rattle.check_well_formed.proofs.costs_few.Goals as goal
 
 pub returns : goal.returns
-returns c = λ rs h. few_is _ _ _ (c.spent-left.ensures rs h)
+returns c = λ rs h. c.is_some.ensures ∙ few_is _ _ _ (c.spent.ensures rs h)

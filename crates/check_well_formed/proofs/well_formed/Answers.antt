@@ -1,44 +1,66 @@
 -- `well_formed` tests the marks, the state, the kinds, and then the records that the words store.
 use mathlib.Core.Path.{sym, ◌∙◌}
-use Rattle.rules.specs.Lists.{all}
-use Rattle.rules.specs.Build.{held}
-use Rattle.rules.specs.WellFormed.{marks_within, well_formed, well_formed_clauses}
-use Rattle.check_arrays.proofs.Walk.{fail_here, pass_here}
-use Rattle.check_well_formed.proofs.Regroup.{regroup}
-use Rattle.check_well_formed.proofs.Ways.{stores_held, marks_room, marks_few}
+use mathlib.Core.Bool.{false≢true}
+use Rattle.rules.specs.WellFormed.{marks_within}
 use Rattle.laws.specs.Records.Words.{both}
+use Rattle.check_arrays.proofs.Walk.{then_and, else_and}
+use Rattle.check_well_formed.proofs.Ways.{stores_held, marks_room, marks_few, slots_few, well_formed_is}
 use Rattle.check_well_formed.proofs.well_formed.Goals as goal
-
-pub returns-then-not-marks_within : goal.returns-then-not-marks_within
-unfolding well_formed well_formed_clauses all marks_within held
-returns-then-not-marks_within c = fail_here _ _ (sym c.marks_within.ensures ∙ c.if-not-marks_within.true)
-
-pub returns-then-not-state_right : goal.returns-then-not-state_right
-unfolding well_formed well_formed_clauses all marks_within held
-returns-then-not-state_right c =
-    let args = c.args in
-    pass_here _ _ _ (sym c.marks_within.ensures ∙ c.if-not-marks_within.false) (fail_here _ _ (sym c.state_right.ensures ∙ c.if-not-state_right.true) ∙ regroup args.s (held args.s args.store.now))
-
-pub returns-then-not-kinds_known : goal.returns-then-not-kinds_known
-unfolding well_formed well_formed_clauses all marks_within held
-returns-then-not-kinds_known c =
-    let if1 = c.if-not-marks_within in
-    let marks_within = c.marks_within in
-    let args = c.args in
-    pass_here _ _ _ (sym marks_within.ensures ∙ if1.false) (pass_here _ _ _ (sym c.state_right.ensures ∙ c.if-not-state_right.false) (fail_here _ _ (sym (c.kinds_known.ensures (marks_room args.store.now args.s.records (both _ _ (sym marks_within.ensures ∙ if1.false)).0)) ∙ c.if-not-kinds_known.true)) ∙ regroup args.s (held args.s args.store.now))
+use Rattle.check_well_formed.proofs.well_formed.Goals.{then-marks_within, else-marks_within, then-state_right, else-state_right}
 
 pub over_records-requires : goal.over_records-requires
 unfolding marks_within
 over_records-requires c =
     let args = c.args in
-    marks_few args.store.now args.s.records (both _ _ (sym c.marks_within.ensures ∙ c.if-not-marks_within.false)).0
+    elim c.if-state_right.branch [
+      | then-state_right w ↦ elim c.if-marks_within.branch [
+        | then-marks_within v ↦
+            let few = slots_few args.s (sym v.state_right.ensures ∙ (sym v.value-is ∙ w.if-state_right.true)) in
+            (marks_few args.store.now args.s.records (both _ _ (sym c.marks_within.ensures ∙ v.if-marks_within.true)).0, few.0, few.1)
+        | else-marks_within v ↦ absurd (false≢true (sym v.if-marks_within.false ∙ (sym v.value-is ∙ w.if-state_right.true)))
+      ]
+      | else-state_right w ↦ absurd (false≢true (sym w.if-state_right.false ∙ (sym w.value-is ∙ c.if-kinds_known.true)))
+    ]
 
-pub returns : goal.returns
-unfolding well_formed well_formed_clauses all marks_within held
-returns c =
-    let if3 = c.if-not-kinds_known in
-    let kinds_known = c.kinds_known in
-    let if1 = c.if-not-marks_within in
-    let marks_within = c.marks_within in
+pub returns-then-kinds_known : goal.returns-then-kinds_known
+unfolding marks_within
+returns-then-kinds_known c =
     let args = c.args in
-    pass_here _ _ _ (sym marks_within.ensures ∙ if1.false) (pass_here _ _ _ (sym c.state_right.ensures ∙ c.if-not-state_right.false) (pass_here _ _ _ (sym (kinds_known.ensures (marks_room args.store.now args.s.records (both _ _ (sym marks_within.ensures ∙ if1.false)).0)) ∙ if3.false) (c.over_records.ensures _ (stores_held _ _ (sym (kinds_known.ensures (marks_room args.store.now args.s.records (both _ _ (sym marks_within.ensures ∙ if1.false)).0)) ∙ if3.false)))) ∙ regroup args.s (held args.s args.store.now))
+    elim c.if-state_right.branch [
+      | then-state_right w ↦ elim c.if-marks_within.branch [
+        | then-marks_within v ↦
+            let room = marks_room args.store.now args.s.records (both _ _ (sym c.marks_within.ensures ∙ v.if-marks_within.true)).0 in
+            let kinds = sym w.value-is ∙ c.if-kinds_known.true in
+            then_and _ _ c.marks_within.ensures v.if-marks_within.true
+            (then_and _ _ v.state_right.ensures (sym v.value-is ∙ w.if-state_right.true)
+            (then_and _ _ (w.kinds_known.ensures room) kinds (c.over_records.ensures _ (stores_held _ _ (sym (w.kinds_known.ensures room) ∙ kinds))))) ∙
+            well_formed_is args.s args.store.now args.clauses.now
+        | else-marks_within v ↦ absurd (false≢true (sym v.if-marks_within.false ∙ (sym v.value-is ∙ w.if-state_right.true)))
+      ]
+      | else-state_right w ↦ absurd (false≢true (sym w.if-state_right.false ∙ (sym w.value-is ∙ c.if-kinds_known.true)))
+    ]
+
+pub returns-else-kinds_known : goal.returns-else-kinds_known
+unfolding marks_within
+returns-else-kinds_known c =
+    let args = c.args in
+    elim c.if-state_right.branch [
+      | then-state_right w ↦ elim c.if-marks_within.branch [
+        | then-marks_within v ↦
+            let room = marks_room args.store.now args.s.records (both _ _ (sym c.marks_within.ensures ∙ v.if-marks_within.true)).0 in
+            w.value-is ∙ (then_and _ _ c.marks_within.ensures v.if-marks_within.true
+            (then_and _ _ v.state_right.ensures (sym v.value-is ∙ w.if-state_right.true)
+            (else_and _ _ (w.kinds_known.ensures room) (sym w.value-is ∙ c.if-kinds_known.false))) ∙
+            well_formed_is args.s args.store.now args.clauses.now)
+        | else-marks_within v ↦ absurd (false≢true (sym v.if-marks_within.false ∙ (sym v.value-is ∙ w.if-state_right.true)))
+      ]
+      | else-state_right w ↦ elim c.if-marks_within.branch [
+        | then-marks_within v ↦
+            w.value-is ∙ (v.value-is ∙ (then_and _ _ c.marks_within.ensures v.if-marks_within.true
+            (else_and _ _ v.state_right.ensures (sym v.value-is ∙ w.if-state_right.false)) ∙
+            well_formed_is args.s args.store.now args.clauses.now))
+        | else-marks_within v ↦
+            w.value-is ∙ (v.value-is ∙ (else_and _ _ c.marks_within.ensures v.if-marks_within.false ∙
+            well_formed_is args.s args.store.now args.clauses.now))
+      ]
+    ]

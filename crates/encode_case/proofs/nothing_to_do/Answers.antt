@@ -11,4 +11,4 @@ returns-then-due c =
 pub returns : goal.returns
 returns c =
     let args = c.args in
-    λ b h d. idle_by args.s args.store.now b args.range h (sym d ∙ c.if-due.false) _ _ _ c.maximum-most.ensures c.values-vs.ensures.0 c.all_defined.ensures
+    λ b h d. idle_by args.s args.store.now b args.range h (sym d ∙ c.if-due.false) _ _ _ c.maximum.ensures c.values-vs.ensures.0 c.all_defined.ensures

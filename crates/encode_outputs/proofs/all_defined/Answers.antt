@@ -1,32 +1,18 @@
-use mathlib.Core.Path.{refl, sym, ◌∙◌}
+-- `all_defined` is `all` over the distances from the first value.
+use mathlib.Core.Path.{refl, ◌∙◌}
+use mathlib.Core.Bool.{not}
+use Prim.Native.Nat.{◌+◌}
 use native.Mathlib.Omega.{arith}
-use Rattle.encode_outputs.proofs.Turns.{defined_end, defined_stop, defined_on}
+use lib.Dec.{eqb}
+use Rattle.std.proofs.lemmas.Iterator.{YieldsList-from_range}
+use Rattle.std.proofs.lemmas.Iterator.Search.{all_from_yields_List}
+use borrow.Author.Rules.{rules}
+use Rattle.rules.specs.Totalizer.{number_of}
+use Rattle.encode_outputs.proofs.Turns.{defined_values, tested}
 use Rattle.encode_outputs.proofs.all_defined.Goals as goal
 
-pub loop-k-init : goal.loop-k-init
-loop-k-init c = (λ rs h. refl, omega arith)
-
-pub overflow_cast-v-in-loop-k : goal.overflow_cast-v-in-loop-k
-overflow_cast-v-in-loop-k c = omega (arith, c.loop-k-test.true, c.loop-k.invariant.1, c.requires)
-
-pub returns-then-find-eq0 : goal.returns-then-find-eq0
-returns-then-find-eq0 c =
-    λ rs h. defined_stop rs _ _ _ _ c.loop-k-test.true (c.find.ensures rs h) c.if-find-eq0.true ∙ c.loop-k.invariant.0 rs h
-
-pub overflow_add-v : goal.overflow_add-v
-overflow_add-v c = omega (arith, c.loop-k-test.true, c.loop-k.invariant.1, c.requires)
-
-pub overflow_sub-k : goal.overflow_sub-k
-overflow_sub-k c = omega (arith, c.loop-k-test.true)
-
-pub loop-k-smaller : goal.loop-k-smaller
-loop-k-smaller c = omega (arith, c.loop-k-test.true)
-
-pub loop-k-preserved : goal.loop-k-preserved
-loop-k-preserved c =
-    let loop-test = c.loop-k-test in
-    let loop = c.loop-k in
-    (λ rs h. sym (defined_on rs _ _ _ _ loop-test.true (c.find.ensures rs h) c.if-find-eq0.false) ∙ loop.invariant.0 rs h, omega (arith, loop-test.true, loop.invariant.1))
-
 pub returns : goal.returns
-returns c = λ rs h. defined_end rs _ _ _ c.loop-k-test.false ∙ c.loop-k.invariant.0 rs h
+returns c =
+    let vs = c.args.vs in
+    λ rs h. all_from_yields_List (λ i. not (eqb (number_of rs c.args.node (vs.first + i)) 0)) _ _ _ c.all.ensures.ran (YieldsList-from_range 0 vs.many vs.many refl (omega arith))
+    (λ x b q k. (search rules, search (rules, tested, h))) ∙ defined_values _ _ _ _

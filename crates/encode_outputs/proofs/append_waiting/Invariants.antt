@@ -1,8 +1,6 @@
 -- `append_waiting` takes the entries in turn: those that are left, behind what is there, are all.
-use mathlib.Core.Path.{◌≡◌}
 use mathlib.Core.List.{List}
-use Prim.Native.Nat.{◌+◌, ◌*◌, ◌≤◌}
-use lib.ListN.{length}
+use Prim.Native.Nat.{◌+◌, ◌*◌, ◌-◌}
 use lib.IntN.{ℤ}
 use Rattle.records.specs.Carries.{st}
 use Rattle.records.proofs.Step.{Rest}
@@ -10,8 +8,5 @@ use Rattle.encode_outputs.specs.Taken.{entries_by, entries_at, with_waiting}
 use Rattle.encode_outputs.proofs.append_waiting.Given as goal
 
 abbrev pub invariant-loop-k : goal.invariant-loop-k
-invariant-loop-k l = ((c : List ℤ) → Rest (st l.initial.store c l.initial.n) (st l.store c l.n) (with_waiting (entries_at l.work l.at)) (with_waiting (entries_by l.work l.x l.y l.at.apart l.k))) ×
-    (l.x + 8 * l.k ≤ 20480) × (l.y + 8 * l.k ≤ 20480) × (length l.store ≡ length l.initial.store)
-
-abbrev pub decreases-loop-k : goal.decreases-loop-k
-decreases-loop-k l = l.k
+invariant-loop-k l = (c : List ℤ) → Rest (st l.initial.store c l.initial.n) (st l.store c l.n) (with_waiting (entries_at l.work l.at))
+    (with_waiting (entries_by l.work (l.at.node + l.k * l.at.apart) (l.at.weight + l.k * l.at.apart) l.at.apart (l.at.many - l.k)))

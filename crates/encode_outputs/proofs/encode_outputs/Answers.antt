@@ -8,4 +8,4 @@ returns-then-m c = outputs_stop _ _ _ _ _ c.if-m.true
 pub returns : goal.returns
 returns c =
     let values = c.values-v in
-    outputs_done _ _ _ _ _ _ _ _ _ _ _ c.if-m.false c.maximum-most.ensures values.ensures.0 (c.define_from.ensures values.ensures.1)
+    outputs_done _ _ _ _ _ _ _ _ _ _ _ c.if-m.false c.maximum.ensures values.ensures.0 (c.define_from.ensures values.ensures.1)

@@ -17,8 +17,8 @@ overflow_sub-result c =
     let power = c.power-w in
     let args = c.args in
     let pre = c.requires in
-    omega (arith, c.lower-high.ensures, c.if-most-low.false, divided_low args.range.lo (args.range.end - 1) power.result (power_some _ _ (omega (arith, pre.0)) power.ensures) (omega (arith, pre.1)))
+    omega (arith, c.min-high.ensures, c.if-most-low.false, divided_low args.range.lo (args.range.end - 1) power.result (power_some _ _ (omega (arith, pre.0)) power.ensures) (omega (arith, pre.1)))
 
 pub returns : goal.returns
 returns c =
-    (values_some _ _ _ _ _ c.requires.0 c.power-w.ensures _ c.lower-high.ensures, omega (arith, c.lower-high.ensures, c.if-most-low.false))
+    (values_some _ _ _ _ _ c.requires.0 c.power-w.ensures _ c.min-high.ensures, omega (arith, c.min-high.ensures, c.if-most-low.false))

@@ -24,8 +24,8 @@ completed-requires c =
     let pre = c.requires in
     (standing_tares _ _ _ c.standing.ensures pre.0.well.laid.tares_few, asked_range (build_of args.s args.store.now) _ _ pre.0.asked, record { node_low = omega arith; weight_low = omega arith; apart_few = omega arith; many_few = omega (arith, (few_wait args.s args.store.now args.clauses.now pre.0.well _ pre.1).1) })
 
-pub returns : goal.returns
-returns c =
+pub returns-else-due : goal.returns-else-due
+returns-else-due c =
     let completed = c.completed in
     let standing = c.standing in
     let args = c.args in

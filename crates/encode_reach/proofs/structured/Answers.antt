@@ -32,8 +32,8 @@ merge_structures-requires c =
     let pre = c.requires in
     refinable args.s args.store.now args.clauses.now pre.0 _ pre.1 pre.2 _ _ (omega (arith, queued.ensures.2, pre.3)) queued.ensures.3 queued.ensures.0 queued.ensures.1 _ c.marks_at-m.ensures c.if-s-eq0.false
 
-pub returns : goal.returns
-returns c =
+pub returns-else-s-eq0 : goal.returns-else-s-eq0
+returns-else-s-eq0 c =
     let merge_structures = c.merge_structures in
     let args = c.args in
     (refined_structured args.s args.store.now _ _ _ _ c.if-s-eq0.false c.requires.2 (refines_by _ _ _ _ _ _ _ _ c.marks_at-m.ensures merge_structures.ensures.0), merge_structures.ensures.1 ∙ c.queued-h.ensures.2, merge_structures.ensures.2, merge_structures.ensures.3)

@@ -1,6 +1,8 @@
 -- `put_back` restores the buckets and copies the waiting records.
 use mathlib.Core.Path.{◌∙◌}
 use native.Mathlib.Omega.{arith}
+use borrow.Author.Rules.{rules}
+use lib.ListN.{length-take}
 use Rattle.rules.specs.Build.{buckets_of}
 use Rattle.encode_undo.proofs.Backs.{back}
 use Rattle.encode_undo.proofs.put_back.Goals as goal
@@ -9,12 +11,9 @@ pub restore_buckets-requires : goal.restore_buckets-requires
 unfolding buckets_of
 restore_buckets-requires c =
     let pre = c.requires in
-    (pre.buckets_few, omega (arith, pre.long), pre.buckets_within)
+    (omega (arith, pre.buckets_few, length-take c.args.s.buckets_used c.args.s.buckets), omega (arith, pre.long), pre.buckets_within)
 
 pub returns : goal.returns
+unfolding buckets_of
 returns c =
-    let copy = c.copy in
-    let restore-buckets = c.restore_buckets in
-    let args = c.args in
-    let pre = c.requires in
-    (back args.s args.store.now _ _ args.work.now args.n pre restore-buckets.ensures copy.ensures, copy.auto.to ∙ restore-buckets.auto.store)
+    (back _ _ _ _ _ _ c.requires (search rules) c.restore_buckets.ensures c.copy.ensures, c.copy.auto.to ∙ c.restore_buckets.auto.store)

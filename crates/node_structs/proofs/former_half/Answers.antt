@@ -5,4 +5,4 @@ use Rattle.node_structs.proofs.former_half.Goals as goal
 
 pub returns : goal.returns
 unfolding former_half_in
-returns c = c.counted_at.ensures ∙ ap (λ (x : Node). (node_in c.args.nodes.now x.link).maximum / 2) c.node_at-x.ensures
+returns c = c.counted_at.ensures ∙ ap (λ (x : Node). (node_in c.args.nodes.now x.link).maximum / 2) c.node_at.ensures

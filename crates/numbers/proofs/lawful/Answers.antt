@@ -1,21 +1,15 @@
--- `lawful` tests both bounds and 0, and negates nothing.
-use mathlib.Core.Path.{sym, ◌∙◌, ap}
+-- `lawful` tests that a number's size lies between the bounds.
+use mathlib.Core.Path.{◌≡◌, ap, ap₂, ◌∙◌}
+use mathlib.Core.Bool.{◌&&◌}
+use lib.IntN.{nat_abs}
 use mir.Syntax.{w32}
-use mir.Val.{to_z, of_z}
 use mir.Facts.{to_z-of_z}
-use Rattle.numbers.proofs.Literals.{lawful_low, lawful_high, lawful_zero, lawful_some}
+use Rattle.rules.specs.Numbers.{lawful}
+use Rattle.numbers.proofs.Literals.{le_is}
 use Rattle.numbers.proofs.lawful.Goals as goal
 
-pub returns-then-x-lt-LEAST : goal.returns-then-x-lt-LEAST
-returns-then-x-lt-LEAST c = lawful_low _ _ (to_z-of_z c.ranges.x) c.if-x-lt-LEAST.true
-
-pub returns-then-x-gt-MOST : goal.returns-then-x-gt-MOST
-returns-then-x-gt-MOST c = lawful_high _ _ (to_z-of_z c.ranges.x) c.if-x-gt-MOST.true
-
-pub returns-then-x-eq0 : goal.returns-then-x-eq0
-returns-then-x-eq0 c = lawful_zero _ _ (to_z-of_z c.ranges.x) (ap (to_z w32) c.if-x-eq0.true)
-
 pub returns : goal.returns
+unfolding lawful
 returns c =
-    let fits = c.ranges in
-    lawful_some _ _ (to_z-of_z fits.x) c.if-x-lt-LEAST.false c.if-x-gt-MOST.false (λ q. c.if-x-eq0.false (ap (of_z w32) (sym (to_z-of_z fits.x) ∙ q)))
+    let size : c.unsigned_abs.result ≡ nat_abs c.args.x = c.unsigned_abs.ensures.value ∙ ap nat_abs (to_z-of_z {w = w32} c.ranges.x) in
+    rw (← size, c.contains.ensures.value, c.new.ensures.start, c.new.ensures.end, c.new.ensures.exhausted) (ap₂ ◌&&◌ (le_is 1 c.unsigned_abs.result) (le_is c.unsigned_abs.result 1000000000))

@@ -1,59 +1,28 @@
--- `literal_word` doubles the size of a number whose bounds it tested, so that neither the negation nor the double wraps.
+-- `literal_word` doubles the size of a literal, so that nothing wraps.
+use mathlib.Core.Path.{◌≡◌, sym, ap, ◌∙◌}
 use native.Mathlib.Omega.{arith}
 use mir.Syntax.{w32}
 use mir.Val.{to_z, of_z}
+use lib.Signed.{lt_z}
+use lib.IntN.{pos}
+use Rattle.numbers.specs.Signed.{word_or_none}
 use mir.Facts.{to_z-of_z}
-use Rattle.numbers.proofs.Literals.{word_low, word_high, size, negation_fits, negation_is, word_negative, not_negative, word_positive}
+use Rattle.numbers.proofs.Literals.{byte_small, lawful_size, word_some, word_none}
 use Rattle.numbers.proofs.literal_word.Goals as goal
 
-pub returns-then-x-lt-LEAST : goal.returns-then-x-lt-LEAST
-returns-then-x-lt-LEAST c = word_low _ _ (to_z-of_z c.ranges.x) c.if-x-lt-LEAST.true
-
-pub returns-then-x-gt-MOST : goal.returns-then-x-gt-MOST
-returns-then-x-gt-MOST c = word_high _ _ (to_z-of_z c.ranges.x) c.if-x-gt-MOST.true
-
-pub overflow_sub-result : goal.overflow_sub-result
-overflow_sub-result c =
-    negation_fits (to_z w32 (of_z w32 c.args.x)) c.if-x-lt-LEAST.false c.if-x-gt-MOST.false c.if-x-lt0.true
-
-pub overflow_cast-result : goal.overflow_cast-result
-overflow_cast-result c =
-    let if2 = c.if-x-gt-MOST in
-    let if1 = c.if-x-lt-LEAST in
-    let args = c.args in
-    rw (negation_is (to_z w32 (of_z w32 args.x)) if1.false if2.false c.if-x-lt0.true) (tt, omega (arith, size (to_z w32 (of_z w32 args.x)) if1.false if2.false))
-
 pub overflow_mul-result : goal.overflow_mul-result
-overflow_mul-result c =
-    let if2 = c.if-x-gt-MOST in
-    let if1 = c.if-x-lt-LEAST in
-    let args = c.args in
-    rw (negation_is (to_z w32 (of_z w32 args.x)) if1.false if2.false c.if-x-lt0.true) (omega (arith, size (to_z w32 (of_z w32 args.x)) if1.false if2.false))
+overflow_mul-result c = omega (arith, c.unsigned_abs.ensures.value, lawful_size _ (sym c.if-lawful.true ∙ c.lawful.ensures))
 
 pub overflow_add-result : goal.overflow_add-result
 overflow_add-result c =
-    let if2 = c.if-x-gt-MOST in
-    let if1 = c.if-x-lt-LEAST in
-    let args = c.args in
-    rw (negation_is (to_z w32 (of_z w32 args.x)) if1.false if2.false c.if-x-lt0.true) (omega (arith, size (to_z w32 (of_z w32 args.x)) if1.false if2.false))
+    omega (arith, c.unsigned_abs.ensures.value, lawful_size _ (sym c.if-lawful.true ∙ c.lawful.ensures), c.from.ensures, byte_small (lt_z (to_z w32 (of_z w32 c.args.x)) (pos 0)))
 
-pub returns-then-x-lt0 : goal.returns-then-x-lt0
-returns-then-x-lt0 c =
-    let if2 = c.if-x-gt-MOST in
-    let if1 = c.if-x-lt-LEAST in
-    let args = c.args in
-    rw (negation_is (to_z w32 (of_z w32 args.x)) if1.false if2.false c.if-x-lt0.true) (word_negative (to_z w32 (of_z w32 args.x)) if1.false if2.false c.if-x-lt0.true _ (to_z-of_z c.ranges.x))
+pub returns-then-lawful : goal.returns-then-lawful
+returns-then-lawful c =
+    let same : to_z w32 (of_z w32 c.args.x) ≡ c.args.x = to_z-of_z {w = w32} c.ranges.x in
+    rw (← same, c.unsigned_abs.ensures.value, c.from.ensures) (word_some _ (sym c.if-lawful.true ∙ c.lawful.ensures))
 
-pub overflow_cast-result-2 : goal.overflow_cast-result-2
-overflow_cast-result-2 c =
-    let if2 = c.if-x-gt-MOST in
-    let if1 = c.if-x-lt-LEAST in
-    let args = c.args in
-    (not_negative (to_z w32 (of_z w32 args.x)) if1.false if2.false c.if-x-lt0.false, omega (arith, size (to_z w32 (of_z w32 args.x)) if1.false if2.false))
-
-pub overflow_mul-result-2 : goal.overflow_mul-result-2
-overflow_mul-result-2 c = omega (arith, size (to_z w32 (of_z w32 c.args.x)) c.if-x-lt-LEAST.false c.if-x-gt-MOST.false)
-
-pub returns : goal.returns
-returns c =
-    word_positive (to_z w32 (of_z w32 c.args.x)) c.if-x-lt-LEAST.false c.if-x-gt-MOST.false c.if-x-lt0.false _ (to_z-of_z c.ranges.x)
+pub returns-else-lawful : goal.returns-else-lawful
+returns-else-lawful c =
+    let same : to_z w32 (of_z w32 c.args.x) ≡ c.args.x = to_z-of_z {w = w32} c.ranges.x in
+    word_none _ (sym c.if-lawful.false ∙ c.lawful.ensures) ∙ ap word_or_none same

@@ -13,5 +13,5 @@ returns-then-w-eq0 c = to_z_pos w32 {n = c.args.w / 2} (omega arith) ∙ sym (wo
 pub overflow_sub-result : goal.overflow_sub-result
 overflow_sub-result c = neg_fits (c.args.w / 2) (omega arith)
 
-pub returns : goal.returns
-returns c = neg_is (c.args.w / 2) (omega arith) ∙ sym (word_odd _ c.if-w-eq0.false)
+pub returns-else-w-eq0 : goal.returns-else-w-eq0
+returns-else-w-eq0 c = neg_is (c.args.w / 2) (omega arith) ∙ sym (word_odd _ c.if-w-eq0.false)

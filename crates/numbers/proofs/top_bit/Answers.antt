@@ -1,10 +1,7 @@
--- `top_bit` is one below `digits`, which is 1 or more.
-use Prim.Native.Nat.{ℕ, ◌-◌}
-use mathlib.Core.Path.{ap}
+-- `top_bit` is the binary logarithm, that of 1 for 0.
 use native.Mathlib.Omega.{arith}
-use Rattle.rules.specs.Digits.{top_bit}
+use Rattle.numbers.proofs.Bits.{top_bit_at}
 use Rattle.numbers.proofs.top_bit.Goals as goal
 
-pub returns : goal.returns
-unfolding top_bit
-returns c = record { value = ap (λ (n : ℕ). n - 1) c.digits.ensures.value; within = omega arith }
+pub returns-clause-value : goal.returns-clause-value
+returns-clause-value c = top_bit_at c.args.x c.ilog2.result (omega (arith, c.ilog2.ensures.power_le)) (omega (arith, c.ilog2.ensures.next_power_gt))

@@ -1,19 +1,11 @@
--- `set` takes the tests in their order.
-use Rattle.precision_steps.proofs.Divisor.{set_12, set_8, set_9, set_0}
-use mathlib.Core.Path.{◌∙◌, sym, ap}
-use mathlib.Core.Bool.{not}
+-- `set` changes the state where nothing is refused.
+use Rattle.rules.specs.Precision.{with_set}
+use Rattle.precision_steps.proofs.Divisor.{set_made, set_kept}
 use Rattle.precision_steps.proofs.set.Goals as goal
 
-pub returns-then-not-formed : goal.returns-then-not-formed
-returns-then-not-formed c = set_12 _ _ _ _ _ (ap not c.if-not-formed.true)
+pub returns-in-Ok : goal.returns-in-Ok
+unfolding with_set
+returns-in-Ok c = set_made c.args.s _ _ _ _ c.check_divisor-answer.ensures c.in-Ok.is c.divisor_of.ensures
 
-pub returns-then-divisor_unlawful : goal.returns-then-divisor_unlawful
-returns-then-divisor_unlawful c = set_8 _ _ _ _ _ (ap not c.if-not-formed.false) (sym c.divisor_unlawful.ensures ∙ c.if-divisor_unlawful.true)
-
-pub returns-then-divisor_coarser : goal.returns-then-divisor_coarser
-returns-then-divisor_coarser c =
-    set_9 _ _ _ _ _ (ap not c.if-not-formed.false) (sym c.divisor_unlawful.ensures ∙ c.if-divisor_unlawful.false) (sym c.divisor_coarser.ensures ∙ c.if-divisor_coarser.true)
-
-pub returns : goal.returns
-returns c =
-    set_0 _ _ _ _ _ _ _ (ap not c.if-not-formed.false) (sym c.divisor_unlawful.ensures ∙ c.if-divisor_unlawful.false) (sym c.divisor_coarser.ensures ∙ c.if-divisor_coarser.false) c.divisor_of.ensures c.with_set-t.ensures
+pub returns-in-Err : goal.returns-in-Err
+returns-in-Err c = set_kept _ _ _ _ _ c.check_divisor-answer.ensures c.in-Err.is

@@ -8,6 +8,6 @@ pub returns-then-half : goal.returns-then-half
 unfolding counts
 returns-then-half c = sym (ap (λ (h : Bool). counts h c.args.x) c.if-half.true)
 
-pub returns : goal.returns
+pub returns-else-half : goal.returns-else-half
 unfolding counts
-returns c = sym (ap (λ (h : Bool). counts h c.args.x) c.if-half.false)
+returns-else-half c = sym (ap (λ (h : Bool). counts h c.args.x) c.if-half.false)

@@ -1,12 +1,13 @@
 -- `output` appends the words of an output with the next number, and then takes that number.
 use Rattle.records_append.proofs.Appending.{output_stop, output_end, output_done}
 use Rattle.records_append.proofs.output.Goals as goal
+use Rattle.records_append.proofs.output.Goals.{then-m-via-then-m, then-m-via-else-m+then-m-gt-MOST_VARIABLE}
 
 pub returns-then-m : goal.returns-then-m
-returns-then-m c = λ b. output_stop _ b _ _ _ c.if-m.true
-
-pub returns-then-fresh-gt-MOST_VARIABLE : goal.returns-then-fresh-gt-MOST_VARIABLE
-returns-then-fresh-gt-MOST_VARIABLE c = λ b. output_end _ b _ _ _ c.if-m.false _ c.full.ensures c.if-fresh-gt-MOST_VARIABLE.true
+returns-then-m c = λ b. elim c.then-m.branch [
+  | then-m-via-then-m w ↦ output_stop _ b _ _ _ _ c.full.ensures w.if-m.true
+  | then-m-via-else-m+then-m-gt-MOST_VARIABLE w ↦ output_end _ b _ _ _ w.if-m.false _ c.full.ensures w.if-m-gt-MOST_VARIABLE.true
+]
 
 pub returns : goal.returns
 returns c =

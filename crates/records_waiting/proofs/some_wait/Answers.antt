@@ -1,18 +1,18 @@
-use Rattle.records_waiting.proofs.Waiting.{some_on, some_stop, some_end}
-use mathlib.Core.Path.{refl}
+use mathlib.Core.Path.{◌∙◌}
+use Prim.Native.Nat.{ℕ}
 use native.Mathlib.Omega.{arith}
+use borrow.Author.Tests.{tests}
+use lib.ListN.{get_or}
+use Rattle.std.proofs.Common.{rules}
+use Rattle.std.proofs.lemmas.Iterator.{YieldsList-from_range}
+use Rattle.std.proofs.lemmas.Iterator.Search.{any_from_yields_List}
+use Rattle.rules.specs.Records.{unknown, waits}
+use Rattle.records_waiting.proofs.Waiting.{some_is}
 use Rattle.records_waiting.proofs.some_wait.Goals as goal
 
-pub loop-i-init : goal.loop-i-init
-loop-i-init c = (λ rs h. refl, omega arith)
-
-pub returns-then-is_waiting : goal.returns-then-is_waiting
-returns-then-is_waiting c =
-    λ rs h. some_stop _ _ rs h _ _ c.loop-i-test.true (c.is_waiting.ensures rs h) c.if-is_waiting.true (c.loop-i.invariant.0 rs h)
-
-pub loop-i-preserved : goal.loop-i-preserved
-loop-i-preserved c =
-    (λ rs h. some_on _ _ rs h _ _ c.loop-i-test.true (c.is_waiting.ensures rs h) c.if-is_waiting.false (c.loop-i.invariant.0 rs h), omega arith)
-
 pub returns : goal.returns
-returns c = λ rs h. some_end _ _ rs h _ c.loop-i-test.false (c.loop-i.invariant.0 rs h)
+returns c =
+    let records = c.args.store.records in
+    λ rs h.
+    let test = λ (i : ℕ). waits (get_or rs i unknown) in
+    any_from_yields_List test _ _ _ c.any.ensures.ran (YieldsList-from_range 0 records records (cc) (omega arith)) (λ x b q k. search (rules, tests)) ∙ some_is rs records h.count_is

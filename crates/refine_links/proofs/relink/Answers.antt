@@ -1,28 +1,24 @@
-use mathlib.Core.Path.{refl, ◌∙◌}
-use native.Mathlib.Omega.{arith}
-use borrow.Author.Rules.{rules}
-use Rattle.refine_links.proofs.Linking.{going_start, going_end, relink_turn, relink_over}
+use mathlib.Core.Path.{◌∙◌}
+use Rattle.std.proofs.lemmas.Iterator.Adapters.{YieldsList-from_rev_slice}
+use Rattle.std.proofs.lemmas.Iterator.Consumers.{YieldsList-turn, YieldsList-end}
+use Rattle.std.proofs.lemmas.List.{length_push}
+use Rattle.refine_links.proofs.Linking.{going_end, going_turn, going_over}
 use Rattle.refine_links.proofs.relink.Goals as goal
-
-pub loop-i-init : goal.loop-i-init
-loop-i-init c = (going_start _ _ _ _ _, omega arith, refl)
-
-pub shape_of-store-then-not-link : goal.shape_of-store-then-not-link
-shape_of-store-then-not-link c = c.link.auto.store ∙ c.loop-i.invariant.2
 
 pub returns-then-not-link : goal.returns-then-not-link
 returns-then-not-link c =
-    let loop = c.loop-i in
-    relink_over _ _ _ _ _ _ _ (search rules) _ _ _ (omega (arith, c.loop-i-test.true)) loop.invariant.1 (c.if-not-link.true) loop.invariant.0 c.link.ensures
+    let loop = c.loop-b in
+    let here = YieldsList-turn (YieldsList-from_rev_slice c.args.buckets.now (cc)) loop.yielded _ loop.yielded_by _ _ c.in-Some.field-0 c.in-Some.is c.next.ensures.steps in
+    going_over _ _ _ _ _ _ _ _ _ here loop.invariant.0 _ c.if-not-link.true c.link.ensures
 
-pub loop-i-preserved : goal.loop-i-preserved
-loop-i-preserved c =
-    let link = c.link in
-    let loop = c.loop-i in
-    (relink_turn _ _ _ _ _ _ _ (search rules) _ _ _ (omega (arith, c.loop-i-test.true)) loop.invariant.1 (c.if-not-link.false) loop.invariant.0 link.ensures, omega arith, link.auto.store ∙ loop.invariant.2)
-
-pub shape_of-store : goal.shape_of-store
-shape_of-store c = c.loop-i.invariant.2
+pub loop-b-preserved : goal.loop-b-preserved
+loop-b-preserved c =
+    let loop = c.loop-b in
+    let here = YieldsList-turn (YieldsList-from_rev_slice c.args.buckets.now (cc)) loop.yielded _ loop.yielded_by _ _ c.in-Some.field-0 c.in-Some.is c.next.ensures.steps in
+    (rw (length_push loop.yielded c.in-Some.field-0) (going_turn _ _ _ _ _ _ _ _ _ here loop.invariant.0 _ c.if-not-link.false c.link.ensures), c.link.auto.store ∙ loop.invariant.1)
 
 pub returns : goal.returns
-returns c = going_end _ _ _ _ _ _ _ _ c.loop-i-test.false c.loop-i.invariant.0
+returns c =
+    let loop = c.loop-b in
+    let end = YieldsList-end (YieldsList-from_rev_slice c.args.buckets.now (cc)) loop.yielded _ loop.yielded_by _ _ c.in-None.is c.next.ensures.steps in
+    going_end _ _ _ _ _ _ _ end.1 loop.invariant.0

@@ -1,23 +1,20 @@
-use mathlib.Core.Path.{refl, ◌∙◌}
-use native.Mathlib.Omega.{arith}
-use borrow.Author.Rules.{rules}
-use Rattle.refine_outputs.proofs.Extending.{passing_start, passing_turn, passing_end}
+use mathlib.Core.Path.{◌∙◌}
+use Rattle.std.proofs.lemmas.Iterator.{YieldsList-from_zip}
+use Rattle.std.proofs.lemmas.Iterator.Adapters.{YieldsList-from_rev_slice}
+use Rattle.std.proofs.lemmas.Iterator.Consumers.{YieldsList-turn, YieldsList-end}
+use Rattle.std.proofs.lemmas.List.{length_push}
+use Rattle.refine_outputs.proofs.Extending.{passing_turn, passing_end}
 use Rattle.refine_outputs.proofs.extend_buckets.Goals as goal
 
-pub loop-i-init : goal.loop-i-init
-loop-i-init c = (passing_start _ _ _ _ _, omega arith, refl, refl)
-
-pub loop-i-preserved : goal.loop-i-preserved
-loop-i-preserved c =
+pub loop-node-preserved : goal.loop-node-preserved
+loop-node-preserved c =
     let extend_bucket = c.extend_bucket-n in
-    let loop = c.loop-i in
-    (passing_turn _ _ _ _ c.args.buckets _ _ (search rules) _ (omega (arith, c.loop-i-test.true)) loop.invariant.1 loop.invariant.0 extend_bucket.ensures, omega arith, extend_bucket.auto.store ∙ loop.invariant.2, extend_bucket.auto.clauses ∙ loop.invariant.3)
-
-pub shape_of-store : goal.shape_of-store
-shape_of-store c = c.loop-i.invariant.2
-
-pub shape_of-clauses : goal.shape_of-clauses
-shape_of-clauses c = c.loop-i.invariant.3
+    let loop = c.loop-node in
+    let here = YieldsList-turn (YieldsList-from_zip (YieldsList-from_rev_slice c.args.buckets.now (cc)) (YieldsList-from_rev_slice c.args.halves.now (cc))) loop.yielded _ loop.yielded_by _ c.next.new.self _ c.in-Some.is c.next.ensures.steps in
+    (rw length_push (passing_turn _ _ _ _ _ _ _ _ here extend_bucket.ensures loop.invariant.0), extend_bucket.auto.store ∙ loop.invariant.1, extend_bucket.auto.clauses ∙ loop.invariant.2)
 
 pub returns : goal.returns
-returns c = passing_end _ _ _ _ _ _ _ c.loop-i-test.false c.loop-i.invariant.0
+returns c =
+    let loop = c.loop-node in
+    let end = YieldsList-end (YieldsList-from_zip (YieldsList-from_rev_slice c.args.buckets.now (cc)) (YieldsList-from_rev_slice c.args.halves.now (cc))) loop.yielded _ loop.yielded_by _ c.next.new.self c.in-None.is c.next.ensures.steps in
+    passing_end _ _ _ _ _ _ end.1 loop.invariant.0

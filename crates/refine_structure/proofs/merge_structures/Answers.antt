@@ -1,7 +1,13 @@
 -- `merge_structures` makes the tower of the new powers and renews the old buckets over it.
-use mathlib.Core.Path.{◌∙◌}
+use mathlib.Core.Path.{◌≡◌, ◌∙◌, subst}
+use mathlib.Core.List.{map}
+use Prim.Native.Nat.{ℕ}
 use native.Mathlib.Omega.{arith}
-use Rattle.refine_structure.proofs.Merging.{spans, within, counted, positive, queued, tares_small, merge_done}
+use borrow.Author.Rules.{rules}
+use lib.ListN.{take, length-take}
+use Rattle.rules.specs.Refinement.{former_half}
+use Rattle.refine_structure.proofs.Segments.{made_slice, first_made}
+use Rattle.refine_structure.proofs.Merging.{spans, within, counted, positive, queued, used_count, tares_small, merge_done}
 use Rattle.refine_structure.proofs.merge_structures.Goals as goal
 
 pub overflow_sub-many : goal.overflow_sub-many
@@ -9,10 +15,8 @@ overflow_sub-many c = (counted _ _ _ _ _ _ c.requires _ _ c.top_bit.ensures.valu
 
 pub new_tares-tares-requires : goal.new_tares-tares-requires
 new_tares-tares-requires c =
-    let top-bit2 = c.top_bit-2 in
-    let top_bit = c.top_bit in
-    let pre = c.requires in
-    ((counted _ _ _ _ _ _ pre _ _ top_bit.ensures.value top-bit2.ensures.value).2, (counted _ _ _ _ _ _ pre _ _ top_bit.ensures.value top-bit2.ensures.value).3)
+    let count = counted _ _ _ _ _ _ c.requires _ _ c.top_bit.ensures.value c.top_bit-2.ensures.value in
+    (omega (arith, length-take {A = ℕ}, count.2), count.3)
 
 pub former_halves-halves-requires : goal.former_halves-halves-requires
 former_halves-halves-requires c = omega (arith, (within _ _ _ _ _ _ c.requires).1)
@@ -20,22 +24,13 @@ former_halves-halves-requires c = omega (arith, (within _ _ _ _ _ _ c.requires).
 pub segment-t-requires : goal.segment-t-requires
 segment-t-requires c =
     let pre = c.requires in
-    (queued _ _ _ _ _ _ pre, positive _ _ _ _ _ _ pre, spans _ _ _ _ _ _ pre, tares_small _ _ _ _ _ _ pre _ (counted _ _ _ _ _ _ pre _ _ c.top_bit.ensures.value c.top_bit-2.ensures.value).1 _ c.new_tares-tares.ensures)
+    (queued _ _ _ _ _ _ pre, positive _ _ _ _ _ _ pre, spans _ _ _ _ _ _ pre, search rules, tares_small _ _ _ _ _ _ pre _ (counted _ _ _ _ _ _ pre _ _ c.top_bit.ensures.value c.top_bit-2.ensures.value).1 _ c.new_tares-tares.ensures)
 
-pub highest-below-requires : goal.highest-below-requires
-highest-below-requires c = omega (arith, c.segment-t.ensures.2, (within _ _ _ _ _ _ c.requires).1)
+pub overflow_sub-made : goal.overflow_sub-made
+overflow_sub-made c = omega (arith, c.segment-t.ensures.2, (within _ _ _ _ _ _ c.requires).1)
 
-pub renew-marks-requires : goal.renew-marks-requires
-renew-marks-requires c = omega (arith, (within _ _ _ _ _ _ c.requires).1)
-
-pub overflow_sub-t : goal.overflow_sub-t
-overflow_sub-t c = omega (arith, c.segment-t.ensures.2, (within _ _ _ _ _ _ c.requires).1)
-
-pub append_buckets-buckets-requires : goal.append_buckets-buckets-requires
-append_buckets-buckets-requires c =
-    let segment = c.segment-t in
-    let pre = c.requires in
-    (omega (arith, segment.ensures.2, (within _ _ _ _ _ _ pre).1), omega (arith, segment.ensures.2, (within _ _ _ _ _ _ pre).1, segment.ensures.1, pre.long))
+pub append-requires : goal.append-requires
+append-requires c = omega (arith, length-take {A = ℕ}, c.segment-t.ensures.2, (within _ _ _ _ _ _ c.requires).1)
 
 pub overflow_add-result : goal.overflow_add-result
 overflow_add-result c =
@@ -52,11 +47,21 @@ shape_of-work c = c.segment-t.ensures.1
 
 pub returns : goal.returns
 returns c =
-    let segment = c.segment-t in
-    let top-bit2 = c.top_bit-2 in
-    let top_bit = c.top_bit in
+    let s = c.args.s in
     let pre = c.requires in
-    (merge_done _ _ _ _ _ _ pre _ (counted _ _ _ _ _ _ pre _ _ top_bit.ensures.value top-bit2.ensures.value).1 _ c.new_tares-tares.ensures _ c.former_halves-halves.ensures.halves _ _ _ segment.ensures.0 segment.ensures.1 segment.ensures.2 _ c.highest-below.ensures _ c.renew-marks.ensures _ _ c.append_buckets-buckets.ensures, segment.ensures.1, segment.ensures.3, omega (arith, (counted _ _ _ _ _ _ pre _ _ top_bit.ensures.value top-bit2.ensures.value).2), omega (arith, segment.ensures.2, (within _ _ _ _ _ _ pre).1))
+    let tower = c.segment-t in
+    let halves = c.former_halves-halves in
+    let count = counted _ _ _ _ _ _ pre _ _ c.top_bit.ensures.value c.top_bit-2.ensures.value in
+    let few = within _ _ _ _ _ _ pre in (
+      merge_done _ _ _ _ _ _ pre _ count.1 _ c.new_tares-tares.ensures _
+          (λ rs h. subst (λ (n : ℕ). take n halves.result ≡ map (former_half rs) (take s.buckets_used s.buckets)) (used_count _ _ _ _ _ _ pre) (halves.ensures.halves rs h))
+          _ _ _ tower.ensures.0 tower.ensures.1 tower.ensures.2 _ (made_slice _ _ (omega (arith, tower.ensures.2, few.1))) _
+          (first_made _ _ _ (c.copied.ensures ∙ c.first.ensures.value) c.unwrap_or-below.ensures) _ c.renew-marks.ensures _ _ c.append.ensures,
+      tower.ensures.1,
+      tower.ensures.3,
+      omega (arith, count.2),
+      omega (arith, tower.ensures.2, few.1),
+    )
 
 pub overflow_add-result-2 : goal.overflow_add-result-2
 overflow_add-result-2 c = omega (arith, c.segment-t.ensures.2, (within _ _ _ _ _ _ c.requires).1)

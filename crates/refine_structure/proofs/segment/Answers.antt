@@ -14,7 +14,7 @@ tower-requires c =
     let top-bit2 = c.top_bit-end in
     let top_bit = c.top_bit-p in
     let pre = c.requires in
-    (pre.0, pre.1, omega (arith, (spans_within _ _ _ top_bit.ensures.value top-bit2.ensures.value pre.2).2), omega (arith, (spans_within _ _ _ top_bit.ensures.value top-bit2.ensures.value pre.2).3), omega (arith, (spans_within _ _ _ top_bit.ensures.value top-bit2.ensures.value pre.2).4), segment_small _ _ _ top_bit.ensures.value top-bit2.ensures.value pre.2 _ _ pre.3)
+    (pre.0, pre.1, omega (arith, (spans_within _ _ _ top_bit.ensures.value top-bit2.ensures.value pre.2).2), omega (arith, (spans_within _ _ _ top_bit.ensures.value top-bit2.ensures.value pre.2).3), segment_small _ _ _ top_bit.ensures.value top-bit2.ensures.value pre.2 _ _ pre.4)
 
 pub returns : goal.returns
 returns c =

@@ -1,9 +1,12 @@
 -- `lists_differ` compares the lengths.
-use Rattle.start_lists.proofs.Order.{lengths_differ, lengths_same}
+use Rattle.std.proofs.Common.{rules}
+use Rattle.rules.specs.Refusals.{lists_differ}
 use Rattle.start_lists.proofs.lists_differ.Goals as goal
 
 pub returns-then-lits-weights : goal.returns-then-lits-weights
-returns-then-lits-weights c = lengths_differ _ _ c.if-lits-weights.true
+unfolding lists_differ
+returns-then-lits-weights c = search rules
 
-pub returns : goal.returns
-returns c = lengths_same _ _ c.if-lits-weights.false
+pub returns-else-lits-weights : goal.returns-else-lits-weights
+unfolding lists_differ
+returns-else-lits-weights c = search rules

@@ -1,7 +1,6 @@
 -- `reaches` stops at the first variable that is not below.
 use mathlib.Core.Path.{◌≡◌}
-use Prim.Native.Nat.{◌-◌}
-use lib.ListN.{length, drop}
+use lib.ListN.{drop}
 use Rattle.rules.specs.Lists.{all}
 use Rattle.start_lists.specs.Literals.{words}
 use Rattle.start_lists.proofs.Order.{Below}
@@ -9,6 +8,3 @@ use Rattle.start_lists.proofs.reaches.Given as goal
 
 abbrev pub invariant-loop-i : goal.invariant-loop-i
 invariant-loop-i l = all (Below l.first) (drop l.i (words l.lits)) ≡ all (Below l.first) (words l.lits)
-
-abbrev pub decreases-loop-i : goal.decreases-loop-i
-decreases-loop-i l = length l.lits - l.i

@@ -7,4 +7,5 @@ use Rattle.totalizer_clauses.proofs.spread.Goals as goal
 pub returns : goal.returns
 returns c =
     let maximum = c.maximum in
-    let i : maximum.result < 4294967296 = omega (arith, maximum.type_inv) in spread_is _ _ _ _ _ _ _ _ _ _ _ _ i maximum.ensures c.counted-right.ensures c.maximum-left.ensures c.minus-lo.ensures c.lower.ensures c.span.ensures
+    let i : maximum.result < 4294967296 = omega (arith, maximum.type_inv) in
+    spread_is _ _ _ _ _ _ _ _ _ _ _ i maximum.ensures c.counted-right.ensures c.maximum-left.ensures (omega arith) (omega arith)

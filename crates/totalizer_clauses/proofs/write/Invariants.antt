@@ -9,8 +9,9 @@ use Rattle.records.specs.Carries.{st}
 use Rattle.records.proofs.Step.{Rest}
 use Rattle.totalizer_clauses.proofs.write.Given as goal
 
-abbrev pub invariant-loop-k : goal.invariant-loop-k
-invariant-loop-k l = ((w : ℕ) → l.o ≡ literal_word (pos w) → asks l.half (l.v - l.lo) < 4294967296 → Rest (st l.s l.initial.c l.initial.n) (st l.s l.c l.n) (write l.half l.l l.r w (pairs_from l.many l.lo l.v)) (write l.half l.l l.r w (pairs_from l.k l.a l.v))) × (l.a + l.k ≡ l.lo + l.many) × (l.lo ≤ l.a) × (length l.c ≡ length l.initial.c)
-
-abbrev pub decreases-loop-k : goal.decreases-loop-k
-decreases-loop-k l = l.k
+abbrev pub invariant-loop-a : goal.invariant-loop-a
+invariant-loop-a l =
+    ((w : ℕ) → l.o ≡ literal_word (pos w) → l.fn.pairs.lo + l.fn.pairs.many ≤ l.v + 1 → asks l.sides.half (l.v - l.fn.pairs.lo) < 4294967296 →
+    Rest (st l.s l.initial.c l.initial.n) (st l.s l.c l.n) (write l.sides.half l.sides.left l.sides.right w (pairs_from l.fn.pairs.many l.fn.pairs.lo l.v))
+    (write l.sides.half l.sides.left l.sides.right w (pairs_from (l.fn.pairs.lo + l.fn.pairs.many - l.a) l.a l.v))) ×
+    (length l.c ≡ length l.initial.c)

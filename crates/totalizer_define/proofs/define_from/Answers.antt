@@ -1,33 +1,24 @@
 use mathlib.Core.Path.{refl, ◌∙◌}
 use native.Mathlib.Omega.{arith}
-use Rattle.records.proofs.Step.{rest_start, rest_end}
+use Rattle.records.proofs.Step.{rest_end}
 use Rattle.totalizer_define.proofs.Pairs.{rising_end}
-use Rattle.totalizer_define.proofs.Defining.{outputs_turn}
+use Rattle.totalizer_define.proofs.Defining.{outputs_start, outputs_turn}
 use Rattle.totalizer_define.proofs.define_from.Goals as goal
 
-pub loop-k-init : goal.loop-k-init
-loop-k-init c = (rest_start _ _, omega arith, refl, refl)
+pub loop-v-init : goal.loop-v-init
+loop-v-init c = (λ i. outputs_start _ _ _ _ _ (omega arith), refl, refl)
 
-pub shape_of-s-then-v-gt-MOST_VALUE : goal.shape_of-s-then-v-gt-MOST_VALUE
-shape_of-s-then-v-gt-MOST_VALUE c = c.loop-k.invariant.2
-
-pub shape_of-c-then-v-gt-MOST_VALUE : goal.shape_of-c-then-v-gt-MOST_VALUE
-shape_of-c-then-v-gt-MOST_VALUE c = c.loop-k.invariant.3
-
-pub returns-then-v-gt-MOST_VALUE : goal.returns-then-v-gt-MOST_VALUE
-returns-then-v-gt-MOST_VALUE c = λ i. absurd (omega arith)
-
-pub loop-k-preserved : goal.loop-k-preserved
-loop-k-preserved c =
+pub loop-v-preserved : goal.loop-v-preserved
+loop-v-preserved c =
     let define = c.define-n in
-    let loop = c.loop-k in
-    (outputs_turn _ _ _ _ _ _ _ c.loop-k-test.true define.ensures loop.invariant.0, omega arith, define.auto.s ∙ loop.invariant.2, define.auto.c ∙ loop.invariant.3)
+    let loop = c.loop-v in
+    (λ i. outputs_turn _ _ _ _ _ _ _ (omega arith) define.ensures (loop.invariant.0 i), define.auto.s ∙ loop.invariant.1, define.auto.c ∙ loop.invariant.2)
 
 pub shape_of-s : goal.shape_of-s
-shape_of-s c = c.loop-k.invariant.2
+shape_of-s c = c.loop-v.invariant.1
 
 pub shape_of-c : goal.shape_of-c
-shape_of-c c = c.loop-k.invariant.3
+shape_of-c c = c.loop-v.invariant.2
 
 pub returns : goal.returns
-returns c = λ i. rest_end _ _ _ _ (rising_end _ _ _ c.loop-k-test.false) c.loop-k.invariant.0
+returns c = λ i. rest_end _ _ _ _ (rising_end _ _ _ (omega arith)) (c.loop-v.invariant.0 i)

@@ -1,6 +1,6 @@
 -- `define_from` goes through the values: those that are left, defined from here, are all of them.
 use mathlib.Core.Path.{◌≡◌}
-use Prim.Native.Nat.{◌+◌}
+use Prim.Native.Nat.{◌+◌, ◌-◌, ◌≤◌}
 use lib.ListN.{length}
 use Rattle.rules.specs.Lists.{in_turn, rising}
 use Rattle.rules.specs.Totalizer.{define_output}
@@ -8,8 +8,7 @@ use Rattle.records.specs.Carries.{st}
 use Rattle.records.proofs.Step.{Rest}
 use Rattle.totalizer_define.proofs.define_from.Given as goal
 
-abbrev pub invariant-loop-k : goal.invariant-loop-k
-invariant-loop-k l = Rest (st l.initial.s l.initial.c l.initial.n) (st l.s l.c l.n) (λ t. in_turn (λ t v. define_output t l.node v) t (rising l.many l.first)) (λ t. in_turn (λ t v. define_output t l.node v) t (rising l.k l.v)) × (l.v + l.k ≡ l.first + l.many) × (length l.s ≡ length l.initial.s) × (length l.c ≡ length l.initial.c)
-
-abbrev pub decreases-loop-k : goal.decreases-loop-k
-decreases-loop-k l = l.k
+abbrev pub invariant-loop-v : goal.invariant-loop-v
+invariant-loop-v l =
+    (l.first + l.many ≤ 4294967296 → Rest (st l.initial.s l.initial.c l.initial.n) (st l.s l.c l.n) (λ t. in_turn (λ t v. define_output t l.node v) t (rising l.many l.first))
+    (λ t. in_turn (λ t v. define_output t l.node v) t (rising (l.first + l.many - l.v) l.v))) × (length l.s ≡ length l.initial.s) × (length l.c ≡ length l.initial.c)

@@ -7,8 +7,8 @@ pub returns-then-m : goal.returns-then-m
 returns-then-m c = λ w e f. extend_stop _ _ _ w c.if-m.true
 
 pub ask_pairs-k-requires : goal.ask_pairs-k-requires
-ask_pairs-k-requires c = span_fewer _ _ _ _ _ c.spread-x.ensures.within c.further-many.ensures
+ask_pairs-k-requires c = span_fewer _ _ _ _ c.further-pairs.ensures c.spread-all.ensures.within
 
 pub returns : goal.returns
 returns c =
-    λ w e f. extend_done _ _ _ _ _ _ w c.if-m.false e _ _ _ _ _ _ c.left-l.ensures c.right-r.ensures c.spread-x.ensures c.further-many.ensures c.height-height.ensures _ _ c.ask_pairs-k.ensures (c.write.ensures _ f)
+    λ w e f. extend_done _ _ _ _ _ _ w c.if-m.false e _ _ _ _ _ c.left.ensures c.right.ensures c.spread-all.ensures c.further-pairs.ensures c.height-height.ensures _ _ c.ask_pairs-k.ensures (c.write.ensures _ f)

@@ -1,17 +1,18 @@
 -- `coarse_ub` reads a state that is well formed.
-use mathlib.Core.Path.{sym, ◌∙◌}
+use Rattle.std.proofs.lemmas.Result.{err_from_is_err_and}
 use Rattle.watchdog_precision.proofs.Formed.{formed_few, formed_tares}
 use Rattle.watchdog_precision.proofs.Answers.{coarse_answer, coarse_refused}
 use Rattle.watchdog_precision.proofs.coarse_ub.Goals as goal
 
-pub coarse-requires : goal.coarse-requires
-coarse-requires c = formed_few _ _ _ (sym c.well_formed-2.ensures ∙ c.if-well_formed.true)
+pub returns-in_err-check_formed : goal.returns-in_err-check_formed
+returns-in_err-check_formed c =
+    let p = err_from_is_err_and c.from_residual.result c.from_residual.ensures.1 in
+    rw (p.1, p.2) (coarse_refused _ _ _ _ c.in_err-check_formed.ensures _)
 
-pub returns-then-well_formed : goal.returns-then-well_formed
-returns-then-well_formed c =
-    let if1 = c.if-well_formed in
-    let well_formed = c.well_formed-2 in
-    coarse_answer _ _ _ _ well_formed.ensures _ _ if1.true (formed_tares _ _ _ (sym well_formed.ensures ∙ if1.true)) c.coarse.ensures
+pub coarse-requires : goal.coarse-requires
+coarse-requires c = formed_few _ _ _ c.in_ok-check_formed.ensures
 
 pub returns : goal.returns
-returns c = coarse_refused _ _ _ _ c.well_formed-2.ensures _ c.if-well_formed.false
+returns c =
+    let formed = c.in_ok-check_formed.ensures in
+    coarse_answer _ _ _ formed _ _ (formed_tares _ _ _ formed) c.coarse.ensures

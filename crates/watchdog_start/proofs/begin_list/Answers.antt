@@ -5,14 +5,8 @@ use lib.Seq.{length-take-le}
 use Rattle.watchdog_start.proofs.Begun.{begun_list}
 use Rattle.watchdog_start.proofs.begin_list.Goals as goal
 
-pub slice_bounds-literals-end : goal.slice_bounds-literals-end
-slice_bounds-literals-end c = c.requires.in_literals
-
 pub slice_bounds-begin-end : goal.slice_bounds-begin-end
 slice_bounds-begin-end c = sym (length-take-le _ c.args.list.literals c.requires.in_literals)
-
-pub slice_bounds-weights-end : goal.slice_bounds-weights-end
-slice_bounds-weights-end c = c.requires.in_weights
 
 pub slice_bounds-begin-end-2 : goal.slice_bounds-begin-end-2
 slice_bounds-begin-end-2 c = sym (length-take-le _ c.args.list.weights c.requires.in_weights)

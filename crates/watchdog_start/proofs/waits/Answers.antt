@@ -4,25 +4,21 @@ use Rattle.watchdog_start.proofs.Written.{more_none, wait_next, more_all, waits_
 use Rattle.watchdog_start.proofs.waits.Goals as goal
 
 pub loop-i-init : goal.loop-i-init
-loop-i-init c = (λ b. more_none _, omega arith, refl)
+loop-i-init c = (λ b. more_none _, refl)
 
-pub overflow_cast-i : goal.overflow_cast-i
-overflow_cast-i c = omega (arith, c.loop-i-test.true)
-
-pub overflow_cast-weights : goal.overflow_cast-weights
-overflow_cast-weights c = omega (arith, weight_small c.args.weights.now c.loop-i.i c.requires.0 c.loop-i-test.true)
+pub overflow_cast-weight : goal.overflow_cast-weight
+overflow_cast-weight c = omega (arith, weight_small c.args.weights.now c.loop-i.i c.requires.0 c.loop-i-test.true)
 
 pub loop-i-preserved : goal.loop-i-preserved
 loop-i-preserved c =
-    let waiting = c.waiting-z in
+    let waiting = c.waiting-m in
     let loop = c.loop-i in (
       λ b. wait_next _ _ _ _ _ c.loop-i-test.true (loop.invariant.0 b) (waiting.ensures b),
-      omega arith,
-      waiting.auto.s ∙ loop.invariant.2,
+      waiting.auto.s ∙ loop.invariant.1,
     )
 
 pub shape_of-s : goal.shape_of-s
-shape_of-s c = c.loop-i.invariant.2
+shape_of-s c = c.loop-i.invariant.1
 
 pub returns : goal.returns
 returns c = λ b. more_all _ _ _ _ (waits_over _ _ c.loop-i-test.false) (c.loop-i.invariant.0 b)

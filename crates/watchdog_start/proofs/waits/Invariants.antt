@@ -1,7 +1,6 @@
 -- `waits` has written a waiting entry for each weight before i.
 use mathlib.Core.Path.{◌≡◌}
 use mathlib.Core.List.{List}
-use Prim.Native.Nat.{◌-◌, ◌≤◌}
 use lib.ListN.{length, take}
 use lib.IntN.{ℤ}
 use Rattle.records.specs.Carries.{st, Steps}
@@ -9,7 +8,4 @@ use Rattle.watchdog_start.specs.Writing.{with_more, wait_records}
 use Rattle.watchdog_start.proofs.waits.Given as goal
 
 abbrev pub invariant-loop-i : goal.invariant-loop-i
-invariant-loop-i l = ((c : List ℤ) → Steps (st l.initial.s c l.initial.z) (st l.s c l.z) (with_more (take l.i (wait_records l.weights)))) × (l.i ≤ length l.weights) × (length l.s ≡ length l.initial.s)
-
-abbrev pub decreases-loop-i : goal.decreases-loop-i
-decreases-loop-i l = length l.weights - l.i
+invariant-loop-i l = ((c : List ℤ) → Steps (st l.initial.s c l.initial.m) (st l.s c l.m) (with_more (take l.i (wait_records l.weights)))) × (length l.s ≡ length l.initial.s)

@@ -1,0 +1,2 @@
+-- What a call of encode finds before it writes.
+pub mod Before
