@@ -1,5 +1,5 @@
 // The public calls as C sees them, over lent slices. Each is the call of its name, demands nothing and takes the time of that call;
-// binding_c exports them.
+// binding_c exports them, each under its name, so that none is an instance of another. Refusals are numbers here: C has no Result.
 #![tactic(auto)]
 
 ghost use Rattle.std.specs.Prelude.{◌≡◌, length};

@@ -1,4 +1,4 @@
-// The calls of binding, exported under their C names.
+// The calls of binding, exported under their C names: a function for each, since an export has one name and no type parameter.
 #![tactic(auto)]
 
 ghost use Rattle.std.specs.Prelude.{◌≡◌, length};

@@ -19,7 +19,7 @@ use Rattle.laws.specs.Records.Images.{records_more}
 use Rattle.laws.specs.WellFormed.Whole.{records_length}
 use Rattle.laws.specs.WellFormed.Plain.{WellFormed}
 use Rattle.laws.specs.WellFormed.ToPlain.{slots_count}
-use Rattle.records.specs.Carries.{St, st, Carries, Lent, read_arena, Stores, peak}
+use Rattle.records.specs.Carries.{St, st, at, Carries, Lent, read_arena, Stores, peak}
 use Rattle.records.proofs.Entry.{begins}
 use Rattle.records.proofs.Small.{peak_sound}
 use Rattle.records_waiting.proofs.Whole.{readable}
@@ -57,7 +57,7 @@ module _ (s : State) (store : List ℕ) (clauses : List ℤ) (w : WellFormed s s
 
   -- the entry of an encode
   abbrev pub e : St
-  e = st store clauses (marks_at s n)
+  e = st store clauses (at (marks_at s n))
 
   inside : 8 * n ≤ length store
   unfolding capacity

@@ -1,5 +1,6 @@
 -- Any two results that the promise of a public function allows are equal; those of `before_waiting`, where the waiting records are last. And two
 -- structures that name the same build name the same.
+use Rattle.std.specs.Prelude.{Option, Some, None, IfSome}
 use mathlib.Core.Path.{◌≡◌, sym, ◌∙◌}
 use mathlib.Core.Bool.{true, not}
 use mathlib.Core.List.{List, ◌++◌, map}
@@ -53,3 +54,17 @@ before_waiting_determined κs a x y e f p q rs es h k = p rs es h k ∙ sym (q r
 pub marks_at_determined : (κs : Lfts 0) (a : Dens κs marks-at-kinds.ps) (x y : (res_t marks-at-kinds.r κs).Denot) (e f : AtExit (ended_of 0 marks-at-kinds.ps marks-at-kinds.r) κs) →
     marks_at.Post κs a x e → marks_at.Post κs a y f → x ≡ y
 marks_at_determined κs a x y e f p q = p ∙ sym q
+
+-- what two answers name, where both name something
+abbrev pub Both : {A : Type 0} → Option A → Option A → (A → A → Type 0) → Type 0
+Both x y R = IfSome x (λ z. IfSome y (λ w. R z w))
+
+pub both : {A : Type 0} (x y : Option A) (P Q : A → Type 0) (R : A → A → Type 0) → ((z w : A) → P z → Q w → R z w) → IfSome x P → IfSome y Q → Both x y R
+both (Some z) (Some w) P Q R f p q = f z w p q
+both (Some z) None P Q R f p q = tt
+both None y P Q R f p q = tt
+
+-- two facts of what an answer names
+pub both_facts : {A : Type 0} (x : Option A) (P Q : A → Type 0) → IfSome x P → IfSome x Q → IfSome x (λ z. P z × Q z)
+both_facts (Some z) P Q p q = (p, q)
+both_facts None P Q p q = tt

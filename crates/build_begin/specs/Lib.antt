@@ -1,2 +1,3 @@
 -- Where an encode begins, and what a build or a refinement names.
 pub mod Named
+pub mod Answer

@@ -9,7 +9,7 @@ use Rattle.build_begin.specs.declared.Structure.{Structure}
 
 -- the marks of a state whose waiting entries begin at record n: what waits is seen as free words
 unfoldable pub marks_at : State → ℕ → Marks
-marks_at s n = record { records = n; words = s.words; fresh = s.fresh; clauses = s.clauses; full = false }
+marks_at s n = record { records = n; words = s.words; fresh = s.fresh; clauses = s.clauses }
 
 -- the structure with other marks
 abbrev pub with_marks : Structure → Marks → Structure

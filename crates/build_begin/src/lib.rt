@@ -11,7 +11,8 @@ ghost use Rattle.build_begin.specs.Named.{marks_at};
 use records::{Marks, Store};
 use rules::State;
 
-// The marks after a build or a refinement, where its queue begins in the work words, its tares and its buckets.
+// The marks after a build or a refinement, where its queue begins in the work words, and its tares and buckets, arrays with a
+// count as a `State` of the C interface has them.
 #[derive(Clone, Copy)]
 pub struct Structure {
     pub marks: Marks,
@@ -40,6 +41,5 @@ pub fn marks_at(s: State, n: usize) -> Marks
         words: s.words,
         fresh: s.fresh,
         clauses: s.clauses,
-        full: false,
     }
 }

@@ -1,2 +1,3 @@
 -- What the promises of the buckets cite.
 pub mod Line
+pub mod Answers

@@ -1,5 +1,6 @@
 -- The tower of a first build is document 01's first build.
 use mathlib.Core.Path.{◌≡◌, refl, sym, ap, ap₂, ◌∙◌, subst}
+use mathlib.Core.Bool.{true}
 use mathlib.Core.List.{List, [], ◌++◌}
 use Prim.Native.Nat.{ℕ, ◌+◌, ◌-◌, ◌^◌, ◌≤◌, ◌<◌}
 use native.Mathlib.Omega.{arith}
@@ -18,7 +19,8 @@ use Rattle.laws.specs.Queue.Runs.{largest_sort}
 use Rattle.laws.specs.Records.Images.{padded_front}
 use Rattle.preserve.specs.Given.{set_positive, weights_few}
 use Rattle.preserve.specs.Sizes.{first_powers_20}
-use Rattle.records.specs.Carries.{St, Fits, Carries, Makes}
+use Rattle.records.specs.Carries.{St, marks_of, Fits, Carries, Makes}
+use Rattle.records.proofs.Step.{makes_any}
 use Rattle.build_line.specs.Work.{line, members_from, made_in}
 use Rattle.build_queue.specs.Queued.{Queued}
 use Rattle.build_queue.proofs.Members.{members_empty}
@@ -169,6 +171,25 @@ module _ (s : State) (store ws : List ℕ) (h d t : ℕ) (x : Powers s store ws 
       (ap₂ (λ (x y : ℕ). (x, y)) x.end_is x.low_is) made in
       first_built b ws h x.ready σ τ e us tares z used (omega (arith, few, x.few)) long
       (et' ∙ ap₂ (λ (n f : ℕ). padded 0 19 (rising n f)) k_is ef) ez (en ∙ k_is) eb eu made' carried
+
+  -- the room ended
+  pub ended : (σ τ e : St) (us tares : List ℕ) (y : List ℕ × List Entry) (fresh : ℕ) → fresh ≡ s.fresh → length us ≡ length ws → 13312 ≤ length ws →
+      tares ≡ padded 0 19 (rising (d - 1 - t) fresh) → (marks_of τ).full ≡ true →
+      Makes σ τ y (tower (d - 1 - t) s.set t (take (d - 1 - t) tares) (members_from ws 0 d) (line ws h)) →
+      Carries e σ b.arena → Carries e τ (build_structure b).arena × (Fits e (build_structure b).arena → Unit {0})
+  unfolding made_in
+  ended σ τ e us tares y fresh ef same long et' k made carried =
+      let z : Structure = record {
+        marks = record { records = 0; words = 0; fresh = 0; clauses = 0 };
+        head = 0;
+        tares = tares;
+        tares_used = d - 1 - t;
+        buckets = padded 0 20 (made_in us 0);
+        buckets_used = 0;
+      } in
+      let whole = tower (d - 1 - t) s.set t (take (d - 1 - t) tares) (members_from ws 0 d) (line ws h) in
+      let all = built σ τ e us tares z 0 fresh ef (omega (arith, x.some)) (omega (arith, same, long)) et' refl refl refl refl (makes_any σ τ y (made_in us 0, line us 0) whole k made) carried in
+      (all.0, λ f. tt)
 
 -- the buckets made, behind none
 pub made_slots : (us xs : List ℕ) (used : ℕ) → used ≤ 20 →

@@ -1,10 +1,11 @@
 // The first build.
 #![tactic(auto)]
 
-ghost use Rattle.std.specs.Prelude.{◌≡◌, List, ◌≤◌, length, ℤ};
+ghost use Rattle.std.specs.Prelude.{◌≡◌, IfSome, List, ◌≤◌, length, ℤ};
 ghost use Rattle.rules.specs.Build.{build_of};
 ghost use Rattle.rules.specs.Buckets.{build_structure};
-ghost use Rattle.records.specs.Carries.{St, st, Fits, Carries};
+ghost use Rattle.records.specs.Carries.{St, st, at, Fits, Carries};
+ghost use Rattle.build_begin.specs.Answer.{structure_marks};
 ghost use Rattle.build_begin.specs.Named.{Named};
 ghost use Rattle.build_first.specs.Ready.{Ready};
 
@@ -21,9 +22,9 @@ pub fn build_structure(
     work: &mut [u32],
     m: Marks,
     h: usize,
-) -> Structure
+) -> Option<Structure>
     requires { Ready (build_of s store.old) work.old h × (m.fresh ≡ s.fresh) }
-    ensures { ((e : St) (c : List ℤ) → Carries e (st store.old c m) (build_of s store.old).arena → Carries e (st store.new c result.marks) (build_structure (build_of s store.old)).arena × (Fits e (build_structure (build_of s store.old)).arena → Named work.new result (build_structure (build_of s store.old)))) × (length work.new ≡ length work.old) × (result.head ≤ 512) × (result.tares_used ≤ 19) }
+    ensures { ((e : St) (c : List ℤ) → Carries e (st store.old c (at m)) (build_of s store.old).arena → Carries e (st store.new c (structure_marks result)) (build_structure (build_of s store.old)).arena × (Fits e (build_structure (build_of s store.old)).arena → IfSome result (λ z. Named work.new z (build_structure (build_of s store.old))))) × (length work.new ≡ length work.old) × IfSome result (λ z. (z.head ≤ 512) × (z.tares_used ≤ 19)) }
 {
     let most = build_queue::weight(work, h);
     let l = numbers::digits(u64::from(most));
@@ -37,15 +38,15 @@ pub fn build_structure(
         end: l as usize,
         taken: k,
     };
-    let t = build_tower::tower(store, work, m, h, plan);
+    let t = build_tower::tower(store, work, m, h, plan)?;
     let made = &work[MADE_END - t.used..MADE_END];
     let buckets = build_arrays::append([0; MOST_BUCKETS], 0, made);
-    Structure {
+    Some(Structure {
         marks: t.marks,
         head: t.head,
         tares,
         tares_used: k,
         buckets,
         buckets_used: t.used as u32,
-    }
+    })
 }

@@ -16,13 +16,12 @@ use Rattle.rules.specs.Build.{largest}
 use Rattle.rules.specs.Queue.{run, others, requeue, Sorting, queue_step, queue_run}
 use Rattle.laws.specs.Numbers.Powers.{top_bit_below}
 use Rattle.laws.specs.Queue.Runs.{step_less, run_stops, steps_keep}
-use Rattle.records.specs.declared.Marks.{Marks}
-use Rattle.records.specs.Carries.{St, st, Makes, on_records, with_records}
+use Rattle.records.specs.Carries.{Held, ended, St, st, Makes, on_records, with_records}
 use Rattle.records.proofs.Grow.{Grows, grows_self, grows_trans}
 use Rattle.records.proofs.Step.{makes_none, makes_same, Left, left_start, left_turn, left_end, left_full}
 use Rattle.totalizer_merge.proofs.Merging.{merge_grows}
 use Rattle.build_line.specs.Work.{line, members_from}
-use Rattle.build_queue.specs.Queued.{sorting, Queued, Kept}
+use Rattle.build_queue.specs.Queued.{sorting, Queued, Some_queued, Kept}
 
 -- Growth --------------------------------------------------------------------------------------------------------------------------
 
@@ -108,7 +107,7 @@ kept_then b c us vs ws h p q = record {
 -- The loop ---------------------------------------------------------------------------------------------------------------------------
 
 -- on the way from the queue of vs at h to that of ws at g; the largest weight that waits is at most the fuel of the run that is left
-pub record Going (s s' : List ℕ) (m m' : Marks) (vs ws : List ℕ) (h g d : ℕ) : Type 0 where
+pub record Going (s s' : List ℕ) (m m' : Held) (vs ws : List ℕ) (h g d : ℕ) : Type 0 where
   pub fuel : ℕ
   pub enough : largest (line ws g) ≤ fuel
   pub left : (c : List ℤ) (n : ℕ) → n ≤ 20 → largest (line vs h) < 2 ^ n →
@@ -119,13 +118,13 @@ pub record Going (s s' : List ℕ) (m m' : Marks) (vs ws : List ℕ) (h g d : �
   pub kept : Kept (largest (line vs h)) vs ws
 
 -- as it is promised
-abbrev pub Gathered : List ℕ → List ℕ → Marks → Marks → List ℕ → List ℕ → ℕ → ℕ → ℕ → Type 0
+abbrev pub Gathered : List ℕ → List ℕ → Held → Held → List ℕ → List ℕ → ℕ → ℕ → ℕ → Type 0
 Gathered s s' m m' vs ws h g d =
     ((c : List ℤ) (n : ℕ) → n ≤ 20 → largest (line vs h) < 2 ^ n →
     Makes (st s c m) (st s' c m') (members_from ws 0 n, line ws g) (sorting (queue_run (largest (line vs h)) d) (members_from vs 0 n, line vs h))) ×
-    Queued ws g × (largest (line ws g) ≤ largest (line vs h)) × Kept (largest (line vs h)) vs ws
+    Kept (largest (line vs h)) vs ws × Queued ws g × (largest (line ws g) ≤ largest (line vs h))
 
-pub going_start : (s : List ℕ) (m : Marks) (vs : List ℕ) (h d : ℕ) → Queued vs h → Going s s m m vs vs h h d
+pub going_start : (s : List ℕ) (m : Held) (vs : List ℕ) (h d : ℕ) → Queued vs h → Going s s m m vs vs h h d
 going_start s m vs h d q = record {
   fuel = largest (line vs h);
   enough = omega arith;
@@ -135,42 +134,55 @@ going_start s m vs h d q = record {
   kept = kept_none (largest (line vs h)) vs;
 }
 
-pub going_turn : (s s' s'' : List ℕ) (m m' m'' : Marks) (vs ws xs : List ℕ) (h g f d w : ℕ) → 1 ≤ d → w ≡ largest (line ws g) → d ≤ w →
+pub going_turn : (s s' s'' : List ℕ) (m m' m'' : Held) (vs ws xs : List ℕ) (h g f d w : ℕ) → 1 ≤ d → w ≡ largest (line ws g) → d ≤ w →
     ((c : List ℤ) (n : ℕ) → n ≤ 20 → largest (line ws g) < 2 ^ n →
     Makes (st s' c m') (st s'' c m'') (members_from xs 0 n, line xs f) (sorting (queue_step (largest (line ws g))) (members_from ws 0 n, line ws g))) ×
-    Queued xs f × (largest (line xs f) < largest (line ws g)) × Kept (largest (line ws g)) ws xs →
+    Kept (largest (line ws g)) ws xs × Queued xs f × (largest (line xs f) < largest (line ws g)) →
     Going s s' m m' vs ws h g d → Going s s'' m m'' vs xs h f d
 going_turn s s' s'' m m' m'' vs ws xs h g f d w p e reach x y = record {
   fuel = y.fuel - 1;
-  enough = omega (arith, x.2, y.enough);
+  enough = omega (arith, x.3, y.enough);
   left = λ c n i j.
       gather_turn (st s c m) (st s' c m') (st s'' c m'') y.fuel d (members_from ws 0 n, line ws g) (members_from xs 0 n, line xs f)
       (sorting (queue_run (largest (line vs h)) d) (members_from vs 0 n, line vs h)) (omega (arith, y.enough)) (omega arith) (x.0 c n i (omega (arith, y.low)))
       (y.left c n i j);
-  queued = x.1;
-  low = omega (arith, x.2, y.low);
-  kept = kept_then (largest (line vs h)) (largest (line ws g)) vs ws xs y.low y.kept x.3;
+  queued = x.2;
+  low = omega (arith, x.3, y.low);
+  kept = kept_then (largest (line vs h)) (largest (line ws g)) vs ws xs y.low y.kept x.1;
 }
 
--- the room ended
-pub going_full : (s s' : List ℕ) (m m' : Marks) (vs ws : List ℕ) (h g d : ℕ) → m'.full ≡ true → Going s s' m m' vs ws h g d → Gathered s s' m m' vs ws h g d
-going_full s s' m m' vs ws h g d k x = (
-  λ c n i j. left_full (st s c m) (st s' c m') (members_from ws 0 n, line ws g) (members_from ws 0 n, line ws g)
-      (sorting (queue_run (largest (line vs h)) d) (members_from vs 0 n, line vs h)) (sorting (queue_run x.fuel d)) (queue_run_grows x.fuel d) k (x.left c n i j),
-  x.queued,
-  x.low,
-  x.kept,
+-- the room ended in a step
+pub going_ended : (s s' s'' : List ℕ) (m m' : Held) (vs ws xs : List ℕ) (h g f z d w : ℕ) → 1 ≤ d → w ≡ largest (line ws g) → d ≤ w →
+    ((c : List ℤ) (n : ℕ) → n ≤ 20 → largest (line ws g) < 2 ^ n →
+    Makes (st s' c m') (st s'' c ended) (members_from xs 0 n, line xs f) (sorting (queue_step (largest (line ws g))) (members_from ws 0 n, line ws g))) →
+    Kept (largest (line ws g)) ws xs → Going s s' m m' vs ws h g d →
+    ((c : List ℤ) (n : ℕ) → n ≤ 20 → largest (line vs h) < 2 ^ n →
+    Makes (st s c m) (st s'' c ended) (members_from xs 0 n, line xs z) (sorting (queue_run (largest (line vs h)) d) (members_from vs 0 n, line vs h))) ×
+    Kept (largest (line vs h)) vs xs
+going_ended s s' s'' m m' vs ws xs h g f z d w p e reach x k y = (
+  λ c n i j.
+      let whole = sorting (queue_run (largest (line vs h)) d) (members_from vs 0 n, line vs h) in
+      left_full (st s c m) (st s'' c ended) (members_from xs 0 n, line xs f) (members_from xs 0 n, line xs z) whole (sorting (queue_run (y.fuel - 1) d))
+      (queue_run_grows (y.fuel - 1) d) refl
+      (gather_turn (st s c m) (st s' c m') (st s'' c ended) y.fuel d (members_from ws 0 n, line ws g) (members_from xs 0 n, line xs f) whole
+      (omega (arith, y.enough)) (omega arith) (x c n i (omega (arith, y.low))) (y.left c n i j)),
+  kept_then (largest (line vs h)) (largest (line ws g)) vs ws xs y.low y.kept k,
 )
 
+-- the room ended in a step, which left the words alone
+pub going_kept : (s s' : List ℕ) (m m' : Held) (vs ws xs : List ℕ) (h g d : ℕ) → xs ≡ ws → Going s s' m m' vs ws h g d → Some_queued xs (largest (line vs h))
+going_kept s s' m m' vs ws xs h g d e y =
+    subst (λ (zs : List ℕ). Some_queued zs (largest (line vs h))) (sym e) (record { head = g; queued = y.queued; low = y.low })
+
 -- the largest weight is below the divisor
-pub going_stops : (s s' : List ℕ) (m m' : Marks) (vs ws : List ℕ) (h g d w : ℕ) → w ≡ largest (line ws g) → w < d → Going s s' m m' vs ws h g d →
+pub going_stops : (s s' : List ℕ) (m m' : Held) (vs ws : List ℕ) (h g d w : ℕ) → w ≡ largest (line ws g) → w < d → Going s s' m m' vs ws h g d →
     Gathered s s' m m' vs ws h g d
 going_stops s s' m m' vs ws h g d w e k x = (
   λ c n i j. gather_stops (st s c m) (st s' c m') x.fuel d (members_from ws 0 n, line ws g)
       (sorting (queue_run (largest (line vs h)) d) (members_from vs 0 n, line vs h)) (omega arith) (x.left c n i j),
+  x.kept,
   x.queued,
   x.low,
-  x.kept,
 )
 
 -- Buckets above every weight ----------------------------------------------------------------------------------------------------------

@@ -20,9 +20,9 @@ use Rattle.laws.specs.Lists.Sorts.{Ordered, ordered_insert}
 use Rattle.laws.specs.Numbers.Powers.{top_bit_least, top_bit_below}
 use Rattle.laws.specs.Queue.Runs.{heavier_order, largest_all, all_largest, others_less, requeue_all, run_some}
 use Rattle.laws.specs.Queue.Loads.{load, load_step, nodes_of}
-use Rattle.records.specs.declared.Marks.{Marks}
-use Rattle.records.specs.Carries.{St, st, Makes, on_records, with_records}
+use Rattle.records.specs.Carries.{Held, ended, St, st, Steps, Makes, on_records, with_records}
 use Rattle.records.proofs.Grow.{le_or}
+use Rattle.records.proofs.Step.{makes_steps, makes_full}
 use Rattle.build_line.specs.Work.{line, line_from, count_at, members_at, members_from}
 use Rattle.build_queue.specs.Queued.{put_member, sorting, Queued, Kept}
 use Rattle.build_queue.proofs.Fronts.{Run, found_run, line_none, line_nodes, line_split, ordered_second}
@@ -216,17 +216,32 @@ step_makes σ τ vs ws h e g node w n i j q r s p =
     (ap₂ (λ (a : List (List ℕ)) (b : List Entry). (a, b)) (sym (s.members n i j)) (sym s.queue)) named
 
 -- the whole step, as it is promised
-pub step_done : (s s' : List ℕ) (m m' : Marks) (vs xs ys : List ℕ) (h e g k node w left : ℕ) → Queued vs h → 1 ≤ largest (line vs h) → w ≡ largest (line vs h) →
+pub step_done : (s s' : List ℕ) (m m' : Held) (vs xs ys : List ℕ) (h e g k node w left : ℕ) → Queued vs h → 1 ≤ largest (line vs h) → w ≡ largest (line vs h) →
     (h < e) × (e ≤ 512) × (line_from vs h (e - h) ≡ run (largest (line vs h)) (line vs h)) × (line vs e ≡ others (largest (line vs h)) (line vs h)) →
     k ≡ top_bit w → xs ≡ put_member vs k node → left ≡ w - 2 ^ top_bit w →
     (g ≤ e) × (line ys g ≡ requeue (line xs e) node left) × (length ys ≡ length xs) × (drop 1024 ys ≡ drop 1024 xs) →
     ((c : List ℤ) → Makes (st s c m) (st s' c m') node (on_records (λ rs. merge rs (take (e - h) (drop h vs))))) →
     ((c : List ℤ) (n : ℕ) → n ≤ 20 → largest (line vs h) < 2 ^ n →
     Makes (st s c m) (st s' c m') (members_from ys 0 n, line ys g) (sorting (queue_step (largest (line vs h))) (members_from vs 0 n, line vs h))) ×
-    Queued ys g × (largest (line ys g) < largest (line vs h)) × Kept (largest (line vs h)) vs ys
+    Kept (largest (line vs h)) vs ys × Queued ys g × (largest (line ys g) < largest (line vs h))
 step_done s s' m m' vs xs ys h e g k node w left q p is r top put rest b made =
     let run_is : Run vs h e (largest (line vs h)) = found_run vs h e (largest (line vs h)) refl r in
     let all : Stepped vs ys h g node (largest (line vs h)) =
     stepped vs xs ys h e g k node (largest (line vs h)) left q p refl run_is (top ∙ ap top_bit is) put (rest ∙ ap (λ (w : ℕ). w - 2 ^ top_bit w) is)
     b.1 b.0 b.2 b.3 in
-    (λ c n i j. step_makes (st s c m) (st s' c m') vs ys h e g node (largest (line vs h)) n i j q run_is all (made c), all.queued, all.less, all.kept)
+    (λ c n i j. step_makes (st s c m) (st s' c m') vs ys h e g node (largest (line vs h)) n i j q run_is all (made c), all.kept, all.queued, all.less)
+
+-- the room ended in the merge
+pub step_ended : (s s' : List ℕ) (m : Held) (vs : List ℕ) (h e g node : ℕ) → Queued vs h →
+    (h < e) × (e ≤ 512) × (line_from vs h (e - h) ≡ run (largest (line vs h)) (line vs h)) × (line vs e ≡ others (largest (line vs h)) (line vs h)) →
+    ((c : List ℤ) → Makes (st s c m) (st s' c ended) node (on_records (λ rs. merge rs (take (e - h) (drop h vs))))) → (c : List ℤ) (n : ℕ) →
+    Makes (st s c m) (st s' c ended) (members_from vs 0 n, line vs g) (sorting (queue_step (largest (line vs h))) (members_from vs 0 n, line vs h))
+unfolding sorting queue_step on_records with_records
+step_ended s s' m vs h e g node q r made c n =
+    let w : ℕ = largest (line vs h) in
+    let found : Run vs h e w = found_run vs h e w refl r in
+    let nodes : take (e - h) (drop h vs) ≡ map (λ (e : Entry). e.node) (run w (line vs h))
+    = line_nodes vs h (e - h) (omega (arith, found.after, found.within, q.long)) ∙ ap (map (λ (e : Entry). e.node)) found.taken in
+    makes_full (st s c m) (st s' c ended) (members_from vs 0 n, line vs g) (sorting (queue_step w) (members_from vs 0 n, line vs h)) refl
+    (subst (λ (l : List ℕ). Steps (st s c m) (st s' c ended) (λ t. with_records t (merge t.records l).0)) nodes
+    (makes_steps (st s c m) (st s' c ended) node (on_records (λ rs. merge rs (take (e - h) (drop h vs)))) (made c)))

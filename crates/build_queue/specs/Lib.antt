@@ -1,2 +1,3 @@
--- The queue of a build in the work words.
+-- The queue of a build in the work words, and what its run answers.
 pub mod Queued
+pub mod Gathered

@@ -16,7 +16,7 @@ use Rattle.rules.specs.Queue.{queue_run}
 use Rattle.rules.specs.Buckets.{buckets_over}
 use Rattle.records.specs.Carries.{St, marks_of, Steps, Makes, on_records, with_records}
 use Rattle.records.proofs.Grow.{Grows, grows_trans}
-use Rattle.records.proofs.Step.{stop, makes_then, makes_same, makes_full}
+use Rattle.records.proofs.Step.{stop, makes_then, makes_same, makes_full, makes_any}
 use Rattle.records_append.specs.Fresh.{with_numbers}
 use borrow.Author.Tests.{ltb-true, ltb-false}
 use Rattle.build_line.specs.Work.{line, line_from, count_at}
@@ -77,6 +77,15 @@ module _ (taken d p : ℕ) (tares : List ℕ) (mss : List (List ℕ)) (es : List
       makes_then τ υ ω x (bs, q) (sorting (queue_run (largest es) d) (mss, es)) (over p tares) (over_grows p tares) g b' in
       makes_same σ ω (bs, q) (λ t. gathering d p tares mss es (with_numbers taken t)) (tower taken d p tares mss es) (tower_is taken d p tares mss es)
       (record { go = λ e t h. both.go e (with_numbers taken t) (s.go e t h) })
+
+  -- the room ended in the queue's run
+  pub tower_run_ended : (σ τ υ : St) (x : List (List ℕ) × List Entry) (y : List ℕ × List Entry) → Steps σ τ (with_numbers taken) →
+      Makes τ υ x (sorting (queue_run (largest es) d) (mss, es)) → (marks_of υ).full ≡ true → Makes σ υ y (tower taken d p tares mss es)
+  tower_run_ended σ τ υ x y s g k =
+      let f : Arena → Arena × List ℕ = on_records (λ rs. buckets_over (some_wait x.1) rs [] tares (drop p x.0)) in
+      makes_any σ υ ([], x.1) y (tower taken d p tares mss es) k
+      (tower_made σ τ υ υ x (some_wait x.1) (drop p x.0) [] x.1 s g refl refl refl
+      (makes_full υ υ [] f k (stop υ (λ t. (f t).0) (buckets_over_grows (some_wait x.1) [] tares (drop p x.0)) k)))
 
 -- The counts set to 0 ------------------------------------------------------------------------------------------------------------
 

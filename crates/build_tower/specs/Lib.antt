@@ -1,2 +1,3 @@
--- The rule of a tower.
+-- The rule of a tower, and what it answers.
 pub mod Rule
+pub mod Answer

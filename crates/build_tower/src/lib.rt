@@ -7,16 +7,17 @@ ghost use Rattle.rules.specs.Records.{Record, Entry, waiting};
 ghost use Rattle.rules.specs.Build.{largest};
 ghost use Rattle.rules.specs.Queue.{heavier};
 ghost use Rattle.laws.specs.Lists.Facts.{All};
-ghost use Rattle.records.specs.Carries.{st, Makes, Reads};
+ghost use Rattle.records.specs.Carries.{st, at, Makes, Reads};
 ghost use Rattle.build_line.specs.Work.{line, count_at, members_from, made_in};
 ghost use Rattle.build_queue.specs.Queued.{Queued};
+ghost use Rattle.build_tower.specs.Answer.{segment_head, segment_marks, segment_used};
 ghost use Rattle.build_tower.specs.Rule.{tower};
 
 use build_line::{COUNTS, PLACES};
 use records::{Marks, Store};
 use rules::MOST_BUCKETS;
 
-// The marks, where the queue begins, and how many buckets were made.
+// The marks, where the queue begins, and how many buckets were made, whose nodes stand at the end of the lent work words.
 #[derive(Clone, Copy)]
 pub struct Segment {
     pub marks: Marks,
@@ -54,25 +55,26 @@ pub fn queued(store: Store, work: &mut [u32], from: usize) -> usize
 
 // The numbers of the new tares taken, the queue at h run while it reaches the divisor, and the buckets made. As the queue and the
 // buckets grow.
-pub fn tower(store: &mut [u32], work: &mut [u32], m: Marks, h: usize, plan: Plan) -> Segment
+pub fn tower(store: &mut [u32], work: &mut [u32], m: Marks, h: usize, plan: Plan) -> Option<Segment>
     requires { Queued work.old h × (1 ≤ plan.divisor) × (plan.low ≤ plan.end) × (plan.end ≤ 20) × (m.fresh + plan.taken ≤ 1000000001 → All (λ t. t < 2147483648) plan.tares.now) }
-    ensures { ((c : List ℤ) → largest (line work.old h) < 2 ^ plan.entry.end → Makes (st store.old c m) (st store.new c result.marks) (made_in work.new result.used, line work.new result.head)
-        (tower plan.entry.taken plan.entry.divisor plan.entry.low plan.entry.tares.now (members_from work.old 0 plan.entry.end) (line work.old h))) × (length work.new ≡ length work.old) × (plan.entry.low + result.used ≤ plan.entry.end) × (result.head ≤ 512) }
+    ensures { ((c : List ℤ) → largest (line work.old h) < 2 ^ plan.entry.end → Makes (st store.old c (at m)) (st store.new c (segment_marks result)) (made_in work.new (segment_used result), line work.new (segment_head result))
+        (tower plan.entry.taken plan.entry.divisor plan.entry.low plan.entry.tares.now (members_from work.old 0 plan.entry.end) (line work.old h))) × (length work.new ≡ length work.old) × (plan.entry.low + segment_used result ≤ plan.entry.end) × (segment_head result ≤ 512) }
 {
-    let a = records_append::numbers(m, plan.taken);
-    if a.full {
-        return Segment {
-            marks: a,
-            head: h,
-            used: 0,
-        };
-    }
-    let g = build_queue::gather(store, work, a, h, plan.divisor);
-    let wait = g.head < PLACES;
-    let b = build_buckets::buckets_over(store, work, g.marks, wait, plan.tares, plan.low, plan.end);
-    Segment {
-        marks: b.marks,
-        head: g.head,
-        used: b.used,
-    }
+    let numbered = records_append::numbers(m, plan.taken)?;
+    let gathered = build_queue::gather(store, work, numbered, h, plan.divisor)?;
+    let wait = gathered.head < PLACES;
+    let made = build_buckets::buckets_over(
+        store,
+        work,
+        gathered.marks,
+        wait,
+        plan.tares,
+        plan.low,
+        plan.end,
+    )?;
+    Some(Segment {
+        marks: made.marks,
+        head: gathered.head,
+        used: made.used,
+    })
 }

@@ -18,19 +18,18 @@ fn blank_marks(fresh: u32) -> Marks {
         words: 0,
         fresh,
         clauses: 0,
-        full: false,
     }
 }
 
 // The inputs, the run of weight 1, the tare, both buckets and their join.
-fn tree(s: &mut [u32], m: Marks) -> Made {
-    let one = records_append::leaf(s, m, 2);
-    let two = records_append::leaf(s, one.marks, 4);
-    let three = records_append::leaf(s, two.marks, 6);
-    let run = totalizer_merge::merge(s, &[one.node, three.node], three.marks);
-    let tare = records_append::leaf(s, run.marks, 8);
-    let low = totalizer_merge::merge(s, &[tare.node, run.node], tare.marks);
-    let high = totalizer_merge::merge(s, &[three.node, two.node], low.marks);
+fn tree(s: &mut [u32], m: Marks) -> Option<Made> {
+    let one = records_append::leaf(s, m, 2)?;
+    let two = records_append::leaf(s, one.marks, 4)?;
+    let three = records_append::leaf(s, two.marks, 6)?;
+    let run = totalizer_merge::merge(s, &[one.node, three.node], three.marks)?;
+    let tare = records_append::leaf(s, run.marks, 8)?;
+    let low = totalizer_merge::merge(s, &[tare.node, run.node], tare.marks)?;
+    let high = totalizer_merge::merge(s, &[three.node, two.node], low.marks)?;
     records_append::join(s, high.marks, true, high.node, low.node)
 }
 
@@ -61,51 +60,65 @@ fn print_clauses<W: Write>(out: &mut W, c: &[i32]) -> io::Result<()> {
     Ok(())
 }
 
+// The tree, and output 2 of its root defined.
+fn define_root(s: &mut [u32], c: &mut [i32]) -> Option<Marks> {
+    let root = tree(s, blank_marks(5))?;
+    totalizer_define::define(s, c, root.marks, root.node, 2)
+}
+
 // P3's clauses and counts.
 fn worked<W: Write>(out: &mut W) -> io::Result<()> {
     let mut store = [0u32; 112];
     let mut buffer = [0i32; 34];
-    let root = tree(&mut store, blank_marks(5));
-    let z = totalizer_define::define(&mut store, &mut buffer, root.marks, root.node, 2);
-    print_clauses(
-        out,
-        &buffer[..history_print::used_literals(&buffer, z.words)],
-    )?;
-    let Marks {
-        clauses,
-        words,
-        records,
-        ..
-    } = z;
+    let Some(
+        Marks {
+            clauses,
+            words,
+            records,
+            ..
+        },
+    ) = define_root(&mut store, &mut buffer)
+    else {
+        return Ok(());
+    };
+    print_clauses(out, &buffer[..history_print::used_literals(&buffer, words)])?;
     writeln!(out, "{clauses} clauses, {words} words, {records} records")
 }
 
 // The leaves of literals 1 to 256, each noted as a member.
-fn leaves(s: &mut [u32], members: &mut [u32; 256], m: Marks) -> Marks {
+fn leaves(s: &mut [u32], members: &mut [u32; 256], m: Marks) -> Option<Marks> {
     let mut n = m;
     for (i, member) in members.iter_mut().enumerate() {
-        let leaf = records_append::leaf(s, n, 2 * i as u32 + 2);
+        let leaf = records_append::leaf(s, n, 2 * i as u32 + 2)?;
         n = leaf.marks;
         *member = leaf.node;
     }
-    n
+    Some(n)
+}
+
+// The leaves merged, and every output of the root defined.
+fn define_merged(s: &mut [u32], c: &mut [i32]) -> Option<Marks> {
+    let mut members = [0u32; 256];
+    let m = leaves(s, &mut members, blank_marks(257))?;
+    let root = totalizer_merge::merge(s, &members, m)?;
+    totalizer_define::define_from(s, c, root.marks, root.node, 1, 256)
 }
 
 // The counts and the sum of 256 leaves merged.
 fn merged<W: Write>(out: &mut W) -> io::Result<()> {
     let mut store = [0u32; 20472];
     let mut buffer = [0i32; 136704];
-    let mut members = [0u32; 256];
-    let m = leaves(&mut store, &mut members, blank_marks(257));
-    let root = totalizer_merge::merge(&mut store, &members, m);
-    let z = totalizer_define::define_from(&mut store, &mut buffer, root.marks, root.node, 1, 256);
-    let Marks {
-        records,
-        fresh,
-        clauses,
-        words,
-        ..
-    } = z;
+    let Some(
+        Marks {
+            records,
+            fresh,
+            clauses,
+            words,
+        },
+    ) = define_merged(&mut store, &mut buffer)
+    else {
+        return Ok(());
+    };
     let used = history_print::used_literals(&buffer, words);
     let sum = history_print::digest_of((0..used).map(|i| numbers::word_at(&buffer, i)));
     writeln!(out, "{records} records")?;

@@ -1,12 +1,12 @@
--- A walk from place 0 on stops at the first place that fails a test; the tests of lists as tests of places.
+-- The tests of lists as tests of places, walks along a list, and conditions in turn.
 use mathlib.Core.Path.{◌≡◌, refl, sym, ap, ap₂, ◌∙◌}
 use mathlib.Core.Bool.{Bool, true, false, ◌&&◌, ◌||◌, false≢true}
 use mathlib.Core.List.{List, [], ◌∷◌}
-use Prim.Native.Nat.{ℕ, zero, suc, ◌+◌, ◌-◌, ◌≤◌, ◌<◌}
+use Prim.Native.Nat.{ℕ, zero, suc, ◌+◌, ◌≤◌, ◌<◌}
 use native.Mathlib.Omega.{arith}
 use lib.ListN.{length, get_or, drop, drop_of_length-le}
 use lib.Seq.{drop-cons}
-use Rattle.rules.specs.Lists.{all, any, rising}
+use Rattle.rules.specs.Lists.{all, rising}
 
 -- two tests that hold together are equal
 pub same_truth : (a b : Bool) → (a ≡ true → b ≡ true) → (b ≡ true → a ≡ true) → a ≡ b
@@ -17,36 +17,6 @@ same_truth false false f g = refl
 pub and_false : (a b : Bool) → b ≡ false → (a && b) ≡ false
 and_false true b e = e
 and_false false b e = refl
-
--- every place from i on, below n, passes
-unfoldable pub rest : (ℕ → Bool) → ℕ → ℕ → Bool
-unfolding all rising
-rest p n i = all p (rising (n - i) i)
-
-pub walk_start : (p : ℕ → Bool) (n : ℕ) → rest p n 0 ≡ all p (rising n 0)
-unfolding rest
-walk_start p n =
-    let e : n - 0 ≡ n = omega arith in
-    ap (λ (k : ℕ). all p (rising k 0)) e
-
-pub rest_here : (p : ℕ → Bool) (n i : ℕ) → i < n → rest p n i ≡ (p i && rest p n (i + 1))
-unfolding rest all rising
-rest_here p n i h =
-    let e : n - i ≡ suc (n - (i + 1)) = omega arith in
-    let up : suc i ≡ i + 1 = omega arith in
-    ap (λ (k : ℕ). all p (rising k i)) e ∙ ap (λ (j : ℕ). p i && all p (rising (n - (i + 1)) j)) up
-
-pub walk_on : (p : ℕ → Bool) (n i : ℕ) (x : Bool) → i < n → p i ≡ true → rest p n i ≡ x → rest p n (i + 1) ≡ x
-walk_on p n i x h t e = sym (rest_here p n i h ∙ ap (λ (b : Bool). b && rest p n (i + 1)) t) ∙ e
-
-pub walk_stop : (p : ℕ → Bool) (n i : ℕ) (x : Bool) → i < n → p i ≡ false → rest p n i ≡ x → false ≡ x
-walk_stop p n i x h t e = sym (rest_here p n i h ∙ ap (λ (b : Bool). b && rest p n (i + 1)) t) ∙ e
-
-pub walk_end : (p : ℕ → Bool) (n i : ℕ) (x : Bool) → n ≤ i → rest p n i ≡ x → true ≡ x
-unfolding rest all rising
-walk_end p n i x h e =
-    let none : n - i ≡ 0 = omega arith in
-    sym (ap (λ (k : ℕ). all p (rising k i)) none) ∙ e
 
 -- places one later
 pub all_later : (p : ℕ → Bool) (n k : ℕ) → all p (rising n (suc k)) ≡ all (λ i. p (suc i)) (rising n k)
@@ -80,13 +50,6 @@ all_both p q (x ∷ xs) = ap (λ (b : Bool). (p x && q x) && b) (all_both p q xs
     go true false false d = refl
     go false b c d = refl
 
--- tests in turn: the first that fails decides, and the others go on
-pub fail_here : (a b : Bool) → a ≡ false → false ≡ (a && b)
-fail_here a b e = ap (λ (t : Bool). t && b) (sym e)
-
-pub pass_here : (a b x : Bool) → a ≡ true → x ≡ b → x ≡ (a && b)
-pass_here a b x e f = f ∙ ap (λ (t : Bool). t && b) (sym e)
-
 -- a walk along a list whose test asks each element and what stands after it
 module _ {A : Type 0} (F : List A → Bool) (t : A → List A → Bool) (step : (y : A) (ys : List A) → F (y ∷ ys) ≡ (t y ys && F ys)) (none : F [] ≡ true)
     (d : A) (xs : List A) (i : ℕ) (x : Bool) (e : F (drop i xs) ≡ x) where
@@ -103,28 +66,6 @@ module _ {A : Type 0} (F : List A → Bool) (t : A → List A → Bool) (step : 
 
   pub along_end : length xs ≤ i → true ≡ x
   along_end h = sym (ap F (drop_of_length-le xs h) ∙ none) ∙ e
-
--- a search along a list
-module _ {A : Type 0} (p : A → Bool) (d : A) (xs : List A) (i : ℕ) (x : Bool) (e : any p (drop i xs) ≡ x) where
-  ahead : i < length xs → any p (drop i xs) ≡ (p (get_or xs i d) || any p (drop (i + 1) xs))
-  unfolding any
-  ahead h =
-      let up : suc i ≡ i + 1 = omega arith in
-      ap (any p) (drop-cons xs i d h) ∙ ap (λ (j : ℕ). p (get_or xs i d) || any p (drop j xs)) up
-
-  pub search_on : i < length xs → p (get_or xs i d) ≡ false → any p (drop (i + 1) xs) ≡ x
-  search_on h q = sym (ahead h ∙ ap (λ (b : Bool). b || any p (drop (i + 1) xs)) q) ∙ e
-
-  pub search_hit : i < length xs → p (get_or xs i d) ≡ true → true ≡ x
-  search_hit h q = sym (ahead h ∙ ap (λ (b : Bool). b || any p (drop (i + 1) xs)) q) ∙ e
-
-  pub search_end : length xs ≤ i → false ≡ x
-  unfolding any
-  search_end h = sym (ap (any p) (drop_of_length-le xs h)) ∙ e
-
-pub pass_last : (a x : Bool) → x ≡ a → x ≡ (a && true)
-pass_last true x e = e
-pass_last false x e = e
 
 -- `a && b`, as a branch decides it: a is the test p, and b, where it is asked, the test q
 pub then_and : (p q : Bool) {a x : Bool} → a ≡ p → a ≡ true → x ≡ q → x ≡ (p && q)

@@ -76,27 +76,11 @@ low_is p inputs n =
     fold_above p n 0 (range_with_len 0 inputs) ∙
     (ap (λ (b : Bool). b && all (λ i. ltb (p i) n) (range_with_len 0 inputs)) (le-leb 0 n (omega arith)) ∙ ap (all (λ i. ltb (p i) n)) (range_is inputs 0))
 
--- a node waits among the records exactly if it is an entry's
-pub waits_among : (rs : List Record) (n : ℕ) → among (map (λ (e : Entry). e.node) (entries rs)) n ≡ waits_in rs n
-unfolding among any entries waits_in is_entry
-waits_among [] n = refl
-waits_among (node m ∷ rs) n = waits_among rs n
-waits_among (output o ∷ rs) n = waits_among rs n
-waits_among (waiting e ∷ rs) n = ap (λ (b : Bool). eqb n e.node || b) (waits_among rs n)
-waits_among (unknown ∷ rs) n = waits_among rs n
-
+-- a node waits among waiting entries exactly if it is the node of one
 waits_entries : (q : List Entry) (n : ℕ) → waits_in (map waiting q) n ≡ among (map (λ (e : Entry). e.node) q) n
 unfolding among any waits_in is_entry
 waits_entries [] n = refl
 waits_entries (e ∷ q) n = ap (λ (b : Bool). eqb n e.node || b) (waits_entries q n)
-
-pub entries_few : (rs : List Record) → length (entries rs) ≤ length rs
-unfolding entries
-entries_few [] = omega arith
-entries_few (node m ∷ rs) = omega (arith, entries_few rs)
-entries_few (output o ∷ rs) = omega (arith, entries_few rs)
-entries_few (waiting e ∷ rs) = omega (arith, entries_few rs)
-entries_few (unknown ∷ rs) = omega (arith, entries_few rs)
 
 -- where the waiting entries stand last, as many of the last records are all of them
 pub waits_last : (rs : List Record) (k : ℕ) → waiting_last rs ≡ true → length (entries rs) ≡ k → (n : ℕ) →

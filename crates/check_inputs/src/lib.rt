@@ -17,14 +17,14 @@ pub fn leaves_first(store: Store, inputs: u32) -> bool
     (0..inputs).all(|i| store.is_leaf(i))
 }
 
-// The variable of node n, 0 where it is no leaf. Constant time.
+// The variable of node n, 0 where it is no leaf, as in the rules. Constant time.
 fn variable(store: Store, n: u32) -> u32
     ensures { (rs : List Record) → Reads store.entry rs → result ≡ variable_of (node_at rs n).kind }
 {
     numbers::variable(store.literal(n))
 }
 
-// The least number above every input variable, 0 where there is no input. Linear in the inputs.
+// The least number above every input variable: above none it is 0. Linear in the inputs.
 pub fn lowest(store: Store, inputs: u32) -> u64
     ensures { (rs : List Record) → Reads store.entry rs → (n : ℕ) → leb result n ≡ all (λ (i : ℕ). ltb (variable_of (node_at rs i).kind) n) (rising inputs 0) }
 {

@@ -65,7 +65,7 @@ pub fn outputs_distinct(store: Store) -> bool
     (0..store.records).all(|i| !again(store, i))
 }
 
-// What record i costs, 0 where it is no waiting entry. Constant time.
+// What record i costs; one that is no waiting entry costs nothing. Constant time.
 fn record_cost(store: Store, cost: Cost, i: usize) -> u64
     ensures { (rs : List Record) → Reads store.entry rs → result ≡ record_cost rs cost (get_or rs i unknown) }
 {

@@ -17,8 +17,8 @@ use Rattle.rules.specs.Lists.{all, among, distinct, total, rising}
 use Rattle.rules.specs.Numbers.{capacity}
 use Rattle.rules.specs.Digits.{power_of_two}
 use Rattle.rules.specs.Records.{Record, Entry, node_at, entries, records_of}
-use Rattle.rules.specs.Build.{tares_of, buckets_of, held}
-use Rattle.rules.specs.WellFormed.{slots_within, tares_within, buckets_within, marks_within, waiting_last, kinds_known, outputs_rise, outputs_distinct, well_formed, well_formed_clauses}
+use Rattle.rules.specs.Build.{tares_of, buckets_of, some_wait, held}
+use Rattle.rules.specs.WellFormed.{is_leaf, slots_within, tares_within, buckets_within, marks_within, clauses_within, variables_below, fresh_within, set_lawful, inputs_within, inputs_first, two_inputs, built_power, built_coarser, built_times_weight, some_bucket, few_buckets, linked, buckets_linked, left_maxima_within, waiting_within, waiting_maxima_within, unbuilt_clauses, no_tare, no_bucket, inputs_wait, weights_add, waiting_last, kinds_known, outputs_rise, outputs_distinct, well_formed, well_formed_clauses}
 use Rattle.laws.specs.Records.Words.{image_of_records, both}
 use Rattle.laws.specs.Lists.Facts.{All_make, total_cong, length_total}
 use Rattle.laws.specs.WellFormed.Whole.{records_length}
@@ -27,16 +27,16 @@ use Rattle.check_records.specs.declared.Limits.{Limits}
 use Rattle.check_records.specs.Tests.{records_right}
 use Rattle.check_outputs.specs.declared.Cost.TheVariants.{Count, Maximum, Weight}
 use Rattle.check_outputs.specs.Steps.{cost, total_cost, spent}
+use Rattle.check_buckets.specs.Links.{left_low}
 use Rattle.check_inputs.specs.Steps.{waits_in}
 use Rattle.check_inputs.proofs.Inputs.{waits_last}
-use Rattle.check_well_formed.specs.Groups.{state_right, state_right_clauses, numbered, numbered_clauses, records_hold, Limited}
+use Rattle.check_well_formed.specs.Groups.{hold, state_right, state_right_clauses, numbered, numbered_clauses, waiting_few, waiting_few_clauses, built_numbers, built_numbers_clauses, built_right, built_right_clauses, unbuilt_right, records_hold, records_hold_clauses, Limited}
 use Rattle.check_well_formed.proofs.Clauses.{numbered_is, all_cong, held_at}
 use Rattle.check_well_formed.proofs.Regroup.{regroup}
 
--- slots of a known length
-pub slots_of : (xs : List ℕ) (used n : ℕ) (b : Bool) → length xs ≡ n → b ≡ slots_within (length xs) used xs (take used xs) →
-    b ≡ slots_within n used xs (take used xs)
-slots_of xs used n b e f = f ∙ ap (λ (k : ℕ). slots_within k used xs (take used xs)) e
+last_one : (a : Bool) → (a && true) ≡ a
+last_one true = refl
+last_one false = refl
 
 -- budgets
 module _ (n t : ℕ) (z : Option ℕ) (e : z ≡ spent n t) where
@@ -90,9 +90,6 @@ power_positive (suc n) e = omega arith
 module _ (t : ℕ) where
   small_power : t ≤ 19 → 2 ^ t % 2 ^ 64 ≡ 2 ^ t
   small_power h = mod-eq_of_lt (omega (arith, pow_mono {i = t} {j = 19} h))
-
-  pub power_some : t ≤ 19 → (p : ℕ) → p ≡ 2 ^ t % 2 ^ 64 → 1 ≤ p
-  power_some h p e = omega (arith, e ∙ small_power h, pow_pos t)
 
   pub times_over : (n : ℕ) → 1 ≤ n → 19 < t → false ≡ leb (n * 2 ^ t) (2 ^ 19)
   times_over zero k h = absurd (omega arith)
@@ -158,3 +155,38 @@ pub well_formed_is : (s : State) (store : List ℕ) (clauses : List ℤ) →
     (marks_within s store clauses && (state_right s && (kinds_known (records_of store s.records) && records_hold s (records_of store s.records)))) ≡ well_formed s store clauses
 unfolding well_formed well_formed_clauses all held
 well_formed_is s store clauses = ap (λ (b : Bool). marks_within s store clauses && b) (regroup s (records_of store s.records))
+
+-- each group, as the check asks it
+pub arrays_within_is : (s : State) → (tares_within s && buckets_within s) ≡
+    (slots_within 19 s.tares_used s.tares (take s.tares_used s.tares) && slots_within 20 s.buckets_used s.buckets (take s.buckets_used s.buckets))
+unfolding tares_within buckets_within tares_of buckets_of
+arrays_within_is s = refl
+
+pub state_right_is : (s : State) → state_right s ≡
+    ((tares_within s && buckets_within s) && (leb s.clauses s.words && (ltb s.variables s.fresh && (leb s.fresh 1000000001 && (power_of_two s.set && leb s.inputs 256)))))
+unfolding state_right state_right_clauses hold all clauses_within variables_below fresh_within set_lawful inputs_within
+state_right_is s = simp last_one
+
+pub built_numbers_is : (s : State) → built_numbers s ≡
+    (leb 2 s.inputs && (power_of_two s.built && (leb s.set s.built && (leb (s.built * 2 ^ s.tares_used) (2 ^ 19) && (leb 1 s.buckets_used && leb s.buckets_used (suc s.tares_used))))))
+unfolding built_numbers built_numbers_clauses hold all two_inputs built_power built_coarser built_times_weight some_bucket few_buckets
+built_numbers_is s = simp last_one
+
+module _ (s : State) (rs : List Record) where
+  pub waiting_few_is : waiting_few rs ≡ (leb (total_cost rs Count rs) 256 && leb (total_cost rs Maximum rs) 256)
+  unfolding waiting_few waiting_few_clauses hold all waiting_within waiting_maxima_within
+  waiting_few_is = sym (simp (last_one, count_is rs, maxima_is rs))
+
+  pub unbuilt_right_is : unbuilt_right s rs ≡ (eqb s.tares_used 0 && (eqb s.buckets_used 0 && (
+      (eqb (length (entries rs)) s.inputs && all (among (map (λ (e : Entry). e.node) (entries rs))) (rising s.inputs 0)) && eqb (total_cost rs Weight rs) s.sum)))
+  unfolding unbuilt_right hold all unbuilt_clauses no_tare no_bucket inputs_wait weights_add
+  unbuilt_right_is = simp (last_one, weights_is rs)
+
+  pub built_right_is : built_right s rs ≡ (built_numbers s && (linked rs (some_wait (entries rs)) (buckets_of s) && all (left_low rs) (buckets_of s)))
+  unfolding built_right built_right_clauses hold all buckets_linked left_maxima_within left_low
+  built_right_is = simp last_one
+
+  pub records_hold_is : records_hold s rs ≡ (all (λ (i : ℕ). is_leaf (node_at rs i).kind) (rising s.inputs 0) && (numbered s rs && (
+      waiting_few rs && cond (eqb s.built 0) (unbuilt_right s rs) (built_right s rs))))
+  unfolding records_hold records_hold_clauses hold all inputs_first
+  records_hold_is = simp last_one

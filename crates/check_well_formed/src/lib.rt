@@ -42,7 +42,7 @@ fn marks_within(s: State, store: &[u32], clauses: &[i32]) -> bool
 }
 
 // Whether the used tares and buckets lie within their arrays and the other slots are 0. Constant time.
-#[tactic(auto, unfolding(rules::specs::WellFormed::tares_within, rules::specs::WellFormed::buckets_within, rules::specs::Build::tares_of, rules::specs::Build::buckets_of))]
+#[tactic(auto, using(crate::proofs::Ways::arrays_within_is))]
 fn arrays_within(s: State) -> bool
     ensures { result ≡ (tares_within s && buckets_within s) }
 {
@@ -50,8 +50,8 @@ fn arrays_within(s: State) -> bool
         && check_arrays::slots_within(&s.buckets, s.buckets_used)
 }
 
-// The clauses of the state alone: arrays, totals, the next fresh number, the set divisor, the inputs. At most 63 turns.
-#[tactic(auto, unfolding(crate::specs::Groups::state_right, crate::specs::Groups::state_right_clauses, crate::specs::Groups::hold, rules::specs::Lists::all, rules::specs::WellFormed::clauses_within, rules::specs::WellFormed::variables_below, rules::specs::WellFormed::fresh_within, rules::specs::WellFormed::set_lawful, rules::specs::WellFormed::inputs_within))]
+// The clauses of the state alone: arrays, totals, the next fresh number, the set divisor, the inputs. Constant time.
+#[tactic(auto, using(crate::proofs::Ways::state_right_is))]
 fn state_right(s: State) -> bool
     ensures { result ≡ state_right s }
 {
@@ -104,7 +104,7 @@ fn costs(store: Store, cost: Cost, n: u64) -> bool
 }
 
 // Whether the waiting entries and their maxima are few enough. Linear in the records.
-#[tactic(auto, using(crate::proofs::Ways::count_is, crate::proofs::Ways::maxima_is), unfolding(crate::specs::Groups::waiting_few, crate::specs::Groups::waiting_few_clauses, crate::specs::Groups::hold, rules::specs::Lists::all, rules::specs::WellFormed::waiting_within, rules::specs::WellFormed::waiting_maxima_within))]
+#[tactic(auto, using(crate::proofs::Ways::waiting_few_is))]
 fn waiting_few(store: Store) -> bool
     ensures { (rs : List Record) → Reads store.entry rs → result ≡ waiting_few rs }
 {
@@ -120,7 +120,7 @@ fn inputs_wait(store: Store, inputs: u32) -> bool
 }
 
 // What unbuilt means. Linear in the records, and quadratic in the inputs.
-#[tactic(auto, using(crate::proofs::Ways::weights_is), unfolding(crate::specs::Groups::unbuilt_right, crate::specs::Groups::hold, rules::specs::Lists::all, rules::specs::WellFormed::unbuilt_clauses, rules::specs::WellFormed::no_tare, rules::specs::WellFormed::no_bucket, rules::specs::WellFormed::inputs_wait, rules::specs::WellFormed::weights_add))]
+#[tactic(auto, using(crate::proofs::Ways::unbuilt_right_is))]
 fn unbuilt_right(s: State, store: Store) -> bool
     ensures { (rs : List Record) → Reads store.entry rs → waiting_last rs ≡ true → result ≡ unbuilt_right s rs }
 {
@@ -138,8 +138,8 @@ fn times_weight(built: u64, tares: u32) -> bool
     tares <= MOST_TARES && built <= TOP_POWER / numbers::power(tares)
 }
 
-// What built means of the state alone. At most 63 turns.
-#[tactic(auto, unfolding(crate::specs::Groups::built_numbers, crate::specs::Groups::built_numbers_clauses, crate::specs::Groups::hold, rules::specs::Lists::all, rules::specs::WellFormed::two_inputs, rules::specs::WellFormed::built_power, rules::specs::WellFormed::built_coarser, rules::specs::WellFormed::built_times_weight, rules::specs::WellFormed::some_bucket, rules::specs::WellFormed::few_buckets))]
+// What built means of the state alone. Constant time.
+#[tactic(auto, using(crate::proofs::Ways::built_numbers_is, crate::proofs::Ways::power_positive))]
 fn built_numbers(s: State) -> bool
     ensures { result ≡ built_numbers s }
 {
@@ -152,7 +152,7 @@ fn built_numbers(s: State) -> bool
 }
 
 // What built means. Linear in the records.
-#[tactic(auto, unfolding(crate::specs::Groups::built_right, crate::specs::Groups::built_right_clauses, crate::specs::Groups::hold, rules::specs::Lists::all, rules::specs::WellFormed::buckets_linked, rules::specs::WellFormed::left_maxima_within, check_buckets::specs::Links::left_low))]
+#[tactic(auto, using(crate::proofs::Ways::built_right_is))]
 fn built_right(s: State, store: Store, buckets: &[u32]) -> bool
     ensures { (rs : List Record) → Reads store.entry rs → buckets.now ≡ buckets_of s → result ≡ built_right s rs }
 {
@@ -162,7 +162,7 @@ fn built_right(s: State, store: Store, buckets: &[u32]) -> bool
 }
 
 // The clauses of the records. Linear in the records, but for the outputs' nodes and values.
-#[tactic(auto, using(crate::proofs::Ways::numbered_last), unfolding(crate::specs::Groups::records_hold, crate::specs::Groups::records_hold_clauses, crate::specs::Groups::hold, rules::specs::Lists::all, rules::specs::WellFormed::inputs_first))]
+#[tactic(auto, using(crate::proofs::Ways::records_hold_is, crate::proofs::Ways::numbered_last))]
 fn records_hold(s: State, store: Store, tares: &[u32], buckets: &[u32]) -> bool
     requires { store.records ≤ 4294967296 }
     ensures { (rs : List Record) → Reads store.entry rs → tares.now ≡ tares_of s → buckets.now ≡ buckets_of s → result ≡ records_hold s rs }

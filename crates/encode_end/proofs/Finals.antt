@@ -9,7 +9,7 @@ use lib.ListN.{length, get_or, take, replicate}
 use lib.Seq.{get_or-take}
 use lib.IntN.{ℤ, pos}
 use Rattle.rules.specs.declared.State.{State}
-use Rattle.std.specs.Prelude.{Ok, Err}
+use Rattle.std.specs.Prelude.{Some, None, Ok, Err}
 use Rattle.rules.specs.declared.Refusal.TheVariants.{NoRoom}
 use Rattle.rules.specs.declared.Encoded.{Encoded}
 use Rattle.rules.specs.Lists.{padded}
@@ -26,10 +26,11 @@ use Rattle.preserve.specs.Given.{buckets_inside}
 use Rattle.preserve.specs.RefinementWhole.{merged_fresh}
 use Rattle.preserve.specs.Encodes.{encode_fresh, prepared_cases}
 use Rattle.preserve.specs.Sounds.{encode_sound}
-use Rattle.records.specs.Carries.{St, st, written, Fits, Holds, Stores, with_records}
+use Rattle.records.specs.Carries.{St, st, at, written, Fits, Holds, Stores, with_records}
 use Rattle.records.proofs.Grow.{fits_or}
 use Rattle.records.proofs.Entry.{held_zeroed}
 use Rattle.build_begin.specs.declared.Structure.{Structure}
+use Rattle.build_begin.specs.Answer.{structure_marks}
 use Rattle.build_begin.specs.Named.{marks_at}
 use Rattle.build_begin.proofs.Begin.{count_is, stored}
 use Rattle.encode_outputs.specs.Taken.{with_waiting, whole}
@@ -93,9 +94,9 @@ module _ (k : Call) (works : Works k) where
       n ≡ length b.arena.records
   begins_at n h = h b.arena.records b.queue (stored s k.store k.clauses well) well.formed.none_waits
 
-  module _ (n : ℕ) (at : n ≡ length b.arena.records) where
+  module _ (n : ℕ) (begun : n ≡ length b.arena.records) where
     abbrev e : St
-    e = st k.store k.clauses (marks_at s n)
+    e = st k.store k.clauses (at (marks_at s n))
 
     pub roomy : (xs ws : List ℕ) → length xs ≡ length k.store → length ws ≡ length k.work → Roomy s xs ws n
     unfolding build_of build_over capacity
@@ -126,89 +127,88 @@ module _ (k : Call) (works : Works k) where
         front : take (8 * (s.records - n)) u ≡ take (8 * (s.records - n)) v
         front = front_same u v (8 * (s.records - n)) l (omega (arith, a.long, few)) (λ i h. same i (omega (arith, few)))
 
-    module _ (z : Structure) (s₁ : List ℕ) (c₁ : List ℤ) (r : Reached b.buckets e (st s₁ c₁ z.marks) c z) where
-      before : c.words_before ≡ s.words
-      unfolding build_of build_over
-      before = kin.words_same
+    before : c.words_before ≡ s.words
+    unfolding build_of build_over
+    before = kin.words_same
 
-      inside : s.words ≤ length k.clauses
-      inside = well.words_within
+    inside : s.words ≤ length k.clauses
+    inside = well.words_within
 
+    -- no room
+    module _ (s₁ : List ℕ) (c₁ : List ℤ) (r : Reached b.buckets e (st s₁ c₁ (structure_marks None)) c None) where
       pub kept : Kept s k.store s₁ n
       unfolding build_of build_over marks_at
       kept = record { same_length = r.same_store; others = r.kept_store }
 
-      -- no room
-      module _ (full : z.marks.full ≡ true) where
-        none : no_room (reached k) k.store k.clauses ≡ true
-        unfolding whole marks_at
-        none =
-            subst (λ (x : Build). no_room x k.store k.clauses ≡ true) (sym way)
-            (no_room_full k.store k.clauses (marks_at s n) c before inside (λ f. true≢false (sym full ∙ (r.fit f).0.not_full))
-            (encode_sound b k.range.lo k.range.end well.formed (asked_two b k.range.lo k.range.end works.begins.asked) works.begins.reached))
+      none : no_room (reached k) k.store k.clauses ≡ true
+      unfolding whole marks_at
+      none =
+          subst (λ (x : Build). no_room x k.store k.clauses ≡ true) (sym way)
+          (no_room_full k.store k.clauses (at (marks_at s n)) c before inside (λ f. true≢false (r.fit f).0.not_full)
+          (encode_sound b k.range.lo k.range.end well.formed (asked_two b k.range.lo k.range.end works.begins.asked) works.begins.reached))
 
-        pub undone_end : (x : EncodeEnd) (s₂ w₂ : List ℕ) → length s₂ ≡ length s₁ → take (8 * s.records) s₂ ≡ take (8 * s.records) k.store → length w₂ ≡ length k.work →
-            x ≡ settled (Err NoRoom) s s₂ c₁ w₂ → x ≡ ended k
-        unfolding settled totalled no_room_end encoded answer_of refusal_of refusals marks_at
-        undone_end x s₂ w₂ ls fs lw ex =
-            ex ∙ (end_is (totalled (Err NoRoom) s) (encoded 7 s) (padded 0 (length s₂) (take (8 * s.records) s₂)) (padded 0 (length k.store) (take (8 * s.records) k.store))
-            (padded (pos 0) (length c₁) (take s.words c₁)) (padded (pos 0) (length k.clauses) (take s.words k.clauses)) (replicate (length w₂) 0) (replicate (length k.work) 0)
-            refl (ap₂ (padded 0) (ls ∙ r.same_store) fs) (ap₂ (padded (pos 0)) r.same_buffer r.kept_buffer) (ap (λ (m : ℕ). replicate m 0) lw) ∙
-            refused_7 k works.formed works.long no_10 none)
+      pub undone_end : (x : EncodeEnd) (s₂ w₂ : List ℕ) → length s₂ ≡ length s₁ → take (8 * s.records) s₂ ≡ take (8 * s.records) k.store → length w₂ ≡ length k.work →
+          x ≡ settled (Err NoRoom) s s₂ c₁ w₂ → x ≡ ended k
+      unfolding settled totalled no_room_end encoded answer_of refusal_of refusals marks_at
+      undone_end x s₂ w₂ ls fs lw ex =
+          ex ∙ (end_is (totalled (Err NoRoom) s) (encoded 7 s) (padded 0 (length s₂) (take (8 * s.records) s₂)) (padded 0 (length k.store) (take (8 * s.records) k.store))
+          (padded (pos 0) (length c₁) (take s.words c₁)) (padded (pos 0) (length k.clauses) (take s.words k.clauses)) (replicate (length w₂) 0) (replicate (length k.work) 0)
+          refl (ap₂ (padded 0) (ls ∙ r.same_store) fs) (ap₂ (padded (pos 0)) r.same_buffer r.kept_buffer) (ap (λ (m : ℕ). replicate m 0) lw) ∙
+          refused_7 k works.formed works.long no_10 none)
 
-      -- room
-      module _ (going : z.marks.full ≡ false) where
-        fits : Fits e (whole c)
-        fits = go (fits_or e (whole c))
-          where
-            go : Fits e (whole c) ⊎ (Fits e (whole c) → ⊥) → Fits e (whole c)
-            go (inl f) = f
-            go (inr f) = absurd (true≢false (sym (r.full f) ∙ going))
+    -- room
+    module _ (z : Structure) (s₁ : List ℕ) (c₁ : List ℤ) (r : Reached b.buckets e (st s₁ c₁ (at z.marks)) c (Some z)) where
+      fits : Fits e (whole c)
+      fits = go (fits_or e (whole c))
+        where
+          go : Fits e (whole c) ⊎ (Fits e (whole c) → ⊥) → Fits e (whole c)
+          go (inl f) = f
+          go (inr f) = absurd (true≢false (sym (r.full f)))
 
-        held : Holds e (st s₁ c₁ z.marks) (whole c)
-        held = (r.fit fits).0
+      held : Holds e (st s₁ c₁ (at z.marks)) (whole c)
+      held = (r.fit fits).0
 
-        fresh_reached : z.marks.fresh ≡ c.arena.fresh
-        unfolding whole with_waiting with_records
-        fresh_reached = held.fresh_is
+      fresh_reached : z.marks.fresh ≡ c.arena.fresh
+      unfolding whole with_waiting with_records
+      fresh_reached = held.fresh_is
 
-        pub fresh_low : s.fresh ≤ z.marks.fresh
-        unfolding build_of build_over
-        fresh_low = omega (arith, fresh_reached, prepared_fresh b, encode_fresh (prepared b) k.range.lo k.range.end)
+      pub fresh_low : s.fresh ≤ z.marks.fresh
+      unfolding build_of build_over
+      fresh_low = omega (arith, fresh_reached, prepared_fresh b, encode_fresh (prepared b) k.range.lo k.range.end)
 
-        pub records_room : (t : State) (built : ℕ) → t ≡ state_after s built z → 8 * t.records ≤ length s₁
-        unfolding state_after
-        records_room t built et = omega (arith, ap (λ (x : State). x.records) et, held.records_is, fits.records_fit, r.same_store)
+      pub records_room : (t : State) (built : ℕ) → t ≡ state_after s built z → 8 * t.records ≤ length s₁
+      unfolding state_after
+      records_room t built et = omega (arith, ap (λ (x : State). x.records) et, held.records_is, fits.records_fit, r.same_store)
 
-        some_room : no_room (reached k) k.store k.clauses ≡ false
-        unfolding whole marks_at
-        some_room =
-            subst (λ (x : Build). no_room x k.store k.clauses ≡ false) (sym way) (room_fit k.store k.clauses (marks_at s n) c before inside fits)
+      some_room : no_room (reached k) k.store k.clauses ≡ false
+      unfolding whole marks_at
+      some_room =
+          subst (λ (x : Build). no_room x k.store k.clauses ≡ false) (sym way) (room_fit k.store k.clauses (at (marks_at s n)) c before inside fits)
 
-        ends_with : Ends_with s z c
-        unfolding whole with_waiting with_records records clause_total marks_at build_of build_over
-        ends_with = record {
-          records_are = held.records_is;
-          words_are = held.words_is ∙ end_words k.store k.clauses (marks_at s n) c before inside;
-          clauses_are = held.clauses_is ∙ ap (λ (m : ℕ). m + length c.arena.clauses) (sym kin.clauses_same);
-          fresh_is = fresh_reached;
-          variables_are = omega (arith, fresh_reached, fresh_low, well.laid.variables_few, kin.first_same);
-          slots = (r.fit fits).1;
-        }
+      ends_with : Ends_with s z c
+      unfolding whole with_waiting with_records records clause_total marks_at build_of build_over
+      ends_with = record {
+        records_are = held.records_is;
+        words_are = held.words_is ∙ end_words k.store k.clauses (at (marks_at s n)) c before inside;
+        clauses_are = held.clauses_is ∙ ap (λ (m : ℕ). m + length c.arena.clauses) (sym kin.clauses_same);
+        fresh_is = fresh_reached;
+        variables_are = omega (arith, fresh_reached, fresh_low, well.laid.variables_few, kin.first_same);
+        slots = (r.fit fits).1;
+      }
 
-        state_reached : (case : Case) → Ok case ≡ case_of b → state_after s case.built z ≡ state_of c
-        unfolding build_of build_over encode_outputs with_arena restructured
-        state_reached case eb =
-            state_is s case.built z c (sym kin.inputs_same) (sym kin.sum_same) (sym kin.set_same) (built_after s k.store k.clauses k.range works.begins case eb) ends_with
+      state_reached : (case : Case) → Ok case ≡ case_of b → state_after s case.built z ≡ state_of c
+      unfolding build_of build_over encode_outputs with_arena restructured
+      state_reached case eb =
+          state_is s case.built z c (sym kin.inputs_same) (sym kin.sum_same) (sym kin.set_same) (built_after s k.store k.clauses k.range works.begins case eb) ends_with
 
-        pub done_end : (x : EncodeEnd) (t : State) (case : Case) (w₂ : List ℕ) → Ok case ≡ case_of b → t ≡ state_after s case.built z → length w₂ ≡ length k.work →
-            x ≡ settled (Ok tt) t s₁ c₁ w₂ → x ≡ ended k
-        unfolding settled totalled state_after encoded_end encoded answer_of whole with_waiting with_records records written marks_at
-        done_end x t case w₂ eb et lw ex =
-            let words = held_zeroed e (st s₁ c₁ z.marks) (whole c) fits held in
-            ex ∙ (ap (λ (y : State). settled (Ok tt) y s₁ c₁ w₂) et ∙
-            (end_is (totalled (Ok tt) (state_after s case.built z)) (encoded 0 (state_of c)) (padded 0 (length s₁) (take (8 * z.marks.records) s₁)) (encoded_end s c k.store k.clauses k.work).store
-            (padded (pos 0) (length c₁) (take z.marks.words c₁)) (encoded_end s c k.store k.clauses k.work).clauses (replicate (length w₂) 0) (replicate (length k.work) 0)
-            (ap (totalled (Ok tt)) (state_reached case eb)) words.0 words.1 (ap (λ (m : ℕ). replicate m 0) lw) ∙
-            (ap (λ (y : Build). encoded_end s y k.store k.clauses k.work) (sym way) ∙
-            accepted_done k works.formed works.long no_10 some_room works.left)))
+      pub done_end : (x : EncodeEnd) (t : State) (case : Case) (w₂ : List ℕ) → Ok case ≡ case_of b → t ≡ state_after s case.built z → length w₂ ≡ length k.work →
+          x ≡ settled (Ok tt) t s₁ c₁ w₂ → x ≡ ended k
+      unfolding settled totalled state_after encoded_end encoded answer_of whole with_waiting with_records records written marks_at
+      done_end x t case w₂ eb et lw ex =
+          let words = held_zeroed e (st s₁ c₁ (at z.marks)) (whole c) fits held in
+          ex ∙ (ap (λ (y : State). settled (Ok tt) y s₁ c₁ w₂) et ∙
+          (end_is (totalled (Ok tt) (state_after s case.built z)) (encoded 0 (state_of c)) (padded 0 (length s₁) (take (8 * z.marks.records) s₁)) (encoded_end s c k.store k.clauses k.work).store
+          (padded (pos 0) (length c₁) (take z.marks.words c₁)) (encoded_end s c k.store k.clauses k.work).clauses (replicate (length w₂) 0) (replicate (length k.work) 0)
+          (ap (totalled (Ok tt)) (state_reached case eb)) words.0 words.1 (ap (λ (m : ℕ). replicate m 0) lw) ∙
+          (ap (λ (y : Build). encoded_end s y k.store k.clauses k.work) (sym way) ∙
+          accepted_done k works.formed works.long no_10 some_room works.left)))

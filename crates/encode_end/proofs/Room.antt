@@ -14,13 +14,12 @@ use Rattle.rules.specs.Records.{Record}
 use Rattle.rules.specs.Totalizer.{Arena}
 use Rattle.rules.specs.Build.{Build, records, clause_words, clause_mark}
 use Rattle.rules.specs.Encode.{no_room}
-use Rattle.records.specs.declared.Marks.{Marks}
-use Rattle.records.specs.Carries.{st, written, Fits, peak, with_records}
+use Rattle.records.specs.Carries.{Held, st, written, Fits, peak, with_records}
 use Rattle.records.proofs.Small.{room_fits, fits_room, peak_sound}
 use Rattle.preserve.specs.Sounds.{Sounds}
 use Rattle.encode_outputs.specs.Taken.{with_waiting}
 
-module _ (store : List ℕ) (clauses : List ℤ) (m : Marks) (c : Build) (before : c.words_before ≡ m.words) (inside : m.words ≤ length clauses) where
+module _ (store : List ℕ) (clauses : List ℤ) (m : Held) (c : Build) (before : c.words_before ≡ m.words) (inside : m.words ≤ length clauses) where
   abbrev end : Arena
   end = with_waiting c.queue c.arena
 

@@ -90,12 +90,14 @@ pub fn carried_out(
         records: s.records,
     });
     encode_undo::set_aside(s, store, work, n);
-    let z = encode_reach::reach(s, store, clauses, work, n, case.due, range);
-    if z.marks.full {
-        encode_undo::put_back(s, store, work, n);
-        settled(Err(Refusal::NoRoom), s, store, clauses, work)
-    } else {
-        let state = state_after(s, case.built, z);
-        settled(Ok(()), state, store, clauses, work)
+    match encode_reach::reach(s, store, clauses, work, n, case.due, range) {
+        Some(z) => {
+            let state = state_after(s, case.built, z);
+            settled(Ok(()), state, store, clauses, work)
+        }
+        None => {
+            encode_undo::put_back(s, store, work, n);
+            settled(Err(Refusal::NoRoom), s, store, clauses, work)
+        }
     }
 }

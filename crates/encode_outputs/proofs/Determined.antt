@@ -1,6 +1,6 @@
 -- Any two results that the promise of a public function allows are equal: the values of a range, those of `all_defined` where the words
--- store records, those of `completed` wherever the arena that it leads to fits; they agree on the full mark, the tares and the buckets
--- everywhere.
+-- store records, those of `completed` wherever the arena that it leads to fits; they agree on whether the room ends, on
+-- the tares and on the buckets everywhere.
 use mathlib.Core.Path.{◌≡◌, sym, ap, ◌∙◌}
 use mathlib.Core.List.{List}
 use Prim.Native.Nat.{ℕ, zero, suc, ◌≤◌}
@@ -14,10 +14,12 @@ use Rattle.rules.specs.Records.{Record}
 use Rattle.rules.specs.Build.{Build}
 use Rattle.rules.specs.Encode.{encode_outputs}
 use Rattle.laws.specs.Lists.Facts.{rising_length}
-use Rattle.records.specs.Carries.{St, st, Fits, Carries, Reads}
+use Rattle.records.specs.Carries.{St, st, at, Fits, Carries, Reads}
 use Rattle.records.proofs.Agree.{Agree, carries_same}
 use Rattle.build_begin.specs.declared.Structure.{Structure}
+use Rattle.build_begin.specs.Answer.{structure_marks}
 use Rattle.build_begin.specs.Named.{with_marks, Slots}
+use Rattle.build_begin.proofs.Determined.{Both, both}
 use Rattle.encode_outputs.specs.Taken.{entries_at, whole}
 use Rattle.encode_outputs.proofs.values.Kinds as values-kinds
 use Rattle.encode_outputs.proofs.values.Reads as values
@@ -46,11 +48,13 @@ pub all_defined_determined : (κs : Lfts 1) (a : Dens κs all-defined-kinds.ps) 
 all_defined_determined κs a x y e f p q rs h = p rs h ∙ sym (q rs h)
 
 pub completed_determined : (κs : Lfts 3) (a : Dens κs completed-kinds.ps) (x y : (res_t completed-kinds.r κs).Denot) (e f : AtExit (ended_of 3 completed-kinds.ps completed-kinds.r) κs) →
-    completed.Post κs a x e → completed.Post κs a y f → (b : St) (c : Build) → Carries b (st a.0.now a.1.0.now a.1.1.1.0.marks) c.arena →
+    completed.Post κs a x e → completed.Post κs a y f → (b : St) (c : Build) → Carries b (st a.0.now a.1.0.now (at a.1.1.1.0.marks)) c.arena →
     (Fits b c.arena → Slots a.1.1.1.0 c × (entries_at a.1.1.0.now a.1.1.1.1.1.0 ≡ c.queue)) →
-    Agree b (st e.0.now e.1.0.now x.marks) (st f.0.now f.1.0.now y.marks) (whole (encode_outputs c a.1.1.1.1.0.lo a.1.1.1.1.0.end))
+    Agree b (st e.0.now e.1.0.now (structure_marks x)) (st f.0.now f.1.0.now (structure_marks y)) (whole (encode_outputs c a.1.1.1.1.0.lo a.1.1.1.1.0.end))
 completed_determined κs a x y e f p q b c h k = carries_same _ _ _ _ (p.1 b c h k) (q.1 b c h k)
 
 pub completed_slots : (κs : Lfts 3) (a : Dens κs completed-kinds.ps) (x y : (res_t completed-kinds.r κs).Denot) (e f : AtExit (ended_of 3 completed-kinds.ps completed-kinds.r) κs) →
-    completed.Post κs a x e → completed.Post κs a y f → x ≡ with_marks y x.marks
-completed_slots κs a x y e f p q = p.0 ∙ ap (λ (z : Structure). with_marks z x.marks) (sym q.0)
+    completed.Post κs a x e → completed.Post κs a y f → Both x y (λ z w. z ≡ with_marks w z.marks)
+completed_slots κs a x y e f p q =
+    let P : Structure → Type 0 = λ z. z ≡ with_marks a.1.1.1.0 z.marks in
+    both x y P P (λ z w. z ≡ with_marks w z.marks) (λ z w i j. i ∙ ap (λ (v : Structure). with_marks v z.marks) (sym j)) p.0 q.0

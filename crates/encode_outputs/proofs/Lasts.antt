@@ -23,7 +23,7 @@ unfolding outputs_of
 outputs_grow root tares lo end t =
     turns_grow (λ s v. define_output s root v) (λ s v. output_grows root v s) (values (node_at t.records root).maximum tares lo end) t
 
-waiting_grows : (es : List Entry) (t : Arena) → Grows t (with_waiting es t)
+pub waiting_grows : (es : List Entry) (t : Arena) → Grows t (with_waiting es t)
 unfolding with_waiting
 waiting_grows es t = records_more t (map waiting es)
 

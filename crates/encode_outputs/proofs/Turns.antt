@@ -1,6 +1,6 @@
 -- The values of a range, outputs found in turn, entries taken in turn.
 use mathlib.Core.Path.{◌≡◌, refl, sym, ap, ap₂, ◌∙◌}
-use mathlib.Core.Bool.{Bool, true, false, not, ◌&&◌}
+use mathlib.Core.Bool.{Bool, false, not, ◌&&◌}
 use mathlib.Core.List.{List, [], ◌∷◌, map, append_assoc, append-nil}
 use Prim.Native.Nat.{ℕ, zero, suc, ◌+◌, ◌*◌, ◌-◌, ◌/◌, ◌%◌, ◌^◌, ◌≤◌, ◌<◌, min}
 use native.Mathlib.Omega.{arith}
@@ -8,17 +8,16 @@ use native.Mathlib.Nat.{div-lt_iff_lt-mul}
 use lib.Dec.{eqb}
 use lib.ListN.{get_or}
 use Rattle.std.specs.List.{list_all, range_with_len}
-use lib.IntN.{pos}
+use Rattle.std.specs.Prelude.{Option, is_some}
 use borrow.Author.Tests.{ne_eqb}
 use Rattle.rules.specs.Lists.{all, in_turn, rising}
-use Rattle.rules.specs.Records.{Record, Entry, waiting, literal_word, node_at}
+use Rattle.rules.specs.Records.{Record, Entry, waiting, node_at}
 use Rattle.rules.specs.Totalizer.{Arena, number_of, define_output}
 use Rattle.numbers.proofs.Bits.{power_whole}
-use Rattle.records.specs.declared.Marks.{Marks}
 use Rattle.records_words.specs.Words.{word_at}
-use Rattle.records.specs.Carries.{St, st, marks_of, Steps, Stores, with_record, with_records}
-use Rattle.records.proofs.Step.{Rest, rest_start, rest_turn, stop, held}
-use Rattle.totalizer_define.proofs.Growth.{turns_grow, output_grows}
+use Rattle.records.specs.Carries.{Held, St, st, Steps, Stores, with_record, with_records}
+use Rattle.records.proofs.Step.{Rest, rest_start, rest_turn, held}
+use Rattle.totalizer_find.specs.Found.{number_word}
 use Rattle.encode_outputs.specs.Values.{values, outputs_of, all_defined}
 use Rattle.encode_outputs.specs.Taken.{entries_by, with_waiting}
 
@@ -55,13 +54,7 @@ divided_low x y w some h =
     omega arith
 
 -- the root outputs of a range, through the words
-pub outputs_stop : (σ : St) (root tares lo end : ℕ) → (marks_of σ).full ≡ true → Steps σ σ (outputs_of root tares lo end)
-unfolding outputs_of
-outputs_stop σ root tares lo end k =
-    stop σ (outputs_of root tares lo end)
-    (λ t. turns_grow (λ s v. define_output s root v) (λ s v. output_grows root v s) (values (node_at t.records root).maximum tares lo end) t) k
-
-pub outputs_done : (s : List ℕ) (c : _) (m : Marks) (τ : St) (root tares lo end most first many : ℕ) → m.full ≡ false →
+pub outputs_done : (s : List ℕ) (c : _) (m : Held) (τ : St) (root tares lo end most first many : ℕ) → m.full ≡ false →
     ((rs : List Record) → Stores s m.records rs → most ≡ (node_at rs root).maximum) → rising many first ≡ values most tares lo end →
     Steps (st s c m) τ (λ t. in_turn (λ t v. define_output t root v) t (rising many first)) → Steps (st s c m) τ (outputs_of root tares lo end)
 unfolding outputs_of
@@ -74,10 +67,10 @@ outputs_done s c m τ root tares lo end most first many k top is p =
     ))
 
 -- a number that was looked for
-pub tested : (x n : ℕ) (b : Bool) → x ≡ literal_word (pos n) → b ≡ not (eqb x 0) → b ≡ not (eqb n 0)
-unfolding literal_word
-tested x zero b p q = q ∙ ap (λ (k : ℕ). not (eqb k 0)) p
-tested x (suc n) b p q = q ∙ (ap (λ (k : ℕ). not (eqb k 0)) p ∙ ap not (ne_eqb (2 * suc n) 0 (λ z. absurd (omega arith)) ∙ sym (ne_eqb (suc n) 0 (λ z. absurd (omega arith)))))
+pub tested : (x : Option ℕ) (n : ℕ) (b : Bool) → x ≡ number_word n → b ≡ is_some x → b ≡ not (eqb n 0)
+unfolding number_word
+tested x zero b p q = q ∙ ap is_some p
+tested x (suc n) b p q = q ∙ (ap is_some p ∙ sym (ap not (ne_eqb (suc n) 0 (λ z. absurd (omega arith)))))
 
 -- values that are looked for by their distance from the first
 module _ (rs : List Record) (node first : ℕ) where

@@ -1,12 +1,13 @@
 // What an encode appends last: the root outputs of its range, then what waits.
 #![tactic(auto)]
 
-ghost use Rattle.std.specs.Prelude.{◌≡◌, List, ◌+◌, ◌≤◌, ◌<◌, get_or, ℤ};
+ghost use Rattle.std.specs.Prelude.{◌≡◌, IfSome, List, ◌+◌, ◌≤◌, ◌<◌, get_or, ℤ};
 ghost use Rattle.rules.specs.Lists.{rising};
 ghost use Rattle.rules.specs.Records.{Record};
 ghost use Rattle.rules.specs.Build.{Build};
 ghost use Rattle.rules.specs.Encode.{encode_outputs};
-ghost use Rattle.records.specs.Carries.{St, st, Fits, Carries, Steps, Reads};
+ghost use Rattle.records.specs.Carries.{St, st, at, after, Fits, Carries, Steps, Reads};
+ghost use Rattle.build_begin.specs.Answer.{structure_marks};
 ghost use Rattle.build_begin.specs.Named.{with_marks, Slots};
 ghost use Rattle.encode_outputs.specs.Values.{values, outputs_of, all_defined};
 ghost use Rattle.encode_outputs.specs.Taken.{Near, entries_at, with_waiting, whole};
@@ -55,21 +56,22 @@ pub fn values(most: u32, tares: u32, range: Range) -> Outputs
 }
 
 // The root outputs of the range, defined. A define for each.
-fn encode_outputs(store: &mut [u32], clauses: &mut [i32], z: Structure, range: Range) -> Marks
+fn encode_outputs(
+    store: &mut [u32],
+    clauses: &mut [i32],
+    z: Structure,
+    range: Range,
+) -> Option<Marks>
     requires { (z.tares_used ≤ 19) × (range.lo < range.end) }
-    ensures { Steps (st store.old clauses.old z.marks) (st store.new clauses.new result) (outputs_of (get_or z.buckets 0 0) z.tares_used range.lo range.end) }
+    ensures { Steps (st store.old clauses.old (at z.marks)) (st store.new clauses.new (after result)) (outputs_of (get_or z.buckets 0 0) z.tares_used range.lo range.end) }
 {
-    let m = z.marks;
-    if m.full {
-        return m;
-    }
     let root = z.buckets[0];
     let used = Store {
         words: store,
-        records: m.records,
+        records: z.marks.records,
     };
     let v = values(used.maximum(root), z.tares_used, range);
-    totalizer_define::define_from(store, clauses, m, root, v.first, v.many)
+    totalizer_define::define_from(store, clauses, z.marks, root, v.first, v.many)
 }
 
 // Whether these outputs of the node are defined. A find for each.
@@ -77,25 +79,25 @@ pub fn all_defined(store: Store, node: u32, vs: Outputs) -> bool
     requires { vs.first + vs.many ≤ 4294967296 }
     ensures { (rs : List Record) → Reads store.entry rs → result ≡ all_defined rs node (rising vs.many vs.first) }
 {
-    (0..vs.many).all(|i| totalizer_find::find(store, node, vs.first + i as u32) != 0)
+    (0..vs.many).all(|i| totalizer_find::find(store, node, vs.first + i as u32).is_some())
 }
 
 // The waiting entries of the work words behind the records. Linear in the entries.
-fn append_waiting(store: &mut [u32], m: Marks, work: &[u32], at: Places) -> Marks
-    requires { Near at }
-    ensures { (c : List ℤ) → Steps (st store.old c m) (st store.new c result) (with_waiting (entries_at work.now at)) }
+fn append_waiting(store: &mut [u32], m: Marks, work: &[u32], queue: Places) -> Option<Marks>
+    requires { Near queue }
+    ensures { (c : List ℤ) → Steps (st store.old c (at m)) (st store.new c (after result)) (with_waiting (entries_at work.now queue)) }
 {
     let mut n = m;
-    for k in 0..at.many {
-        let on = k * at.apart;
+    for k in 0..queue.many {
+        let on = k * queue.apart;
         n = records_append::waiting(
             store,
             n,
-            records_words::word(work, at.node + on),
-            records_words::word(work, at.weight + on),
-        );
+            records_words::word(work, queue.node + on),
+            records_words::word(work, queue.weight + on),
+        )?;
     }
-    n
+    Some(n)
 }
 
 // The root outputs of the range defined, and then what waits appended. A define for each output, linear in the entries.
@@ -105,15 +107,15 @@ pub fn completed(
     work: &[u32],
     z: Structure,
     range: Range,
-    at: Places,
-) -> Structure
-    requires { (z.tares_used ≤ 19) × (range.lo < range.end) × Near at }
-    ensures marks { result ≡ with_marks z result.marks }
-    ensures carries { (e : St) (p : Build) → Carries e (st store.old clauses.old z.marks) p.arena →
-        (Fits e p.arena → Slots z p × (entries_at work.now at ≡ p.queue)) →
-        Carries e (st store.new clauses.new result.marks) (whole (encode_outputs p range.lo range.end)) }
+    queue: Places,
+) -> Option<Structure>
+    requires { (z.tares_used ≤ 19) × (range.lo < range.end) × Near queue }
+    ensures marks { IfSome result (λ y. y ≡ with_marks z y.marks) }
+    ensures carries { (e : St) (p : Build) → Carries e (st store.old clauses.old (at z.marks)) p.arena →
+        (Fits e p.arena → Slots z p × (entries_at work.now queue ≡ p.queue)) →
+        Carries e (st store.new clauses.new (structure_marks result)) (whole (encode_outputs p range.lo range.end)) }
 {
-    let n = encode_outputs(store, clauses, z, range);
-    let marks = append_waiting(store, n, work, at);
-    Structure { marks, ..z }
+    let n = encode_outputs(store, clauses, z, range)?;
+    let marks = append_waiting(store, n, work, queue)?;
+    Some(Structure { marks, ..z })
 }

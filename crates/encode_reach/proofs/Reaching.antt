@@ -1,5 +1,6 @@
 -- What is carried over an entry changed in place is reached over the entry itself; the queue by its words.
 use mathlib.Core.Path.{◌≡◌, refl, sym, ap, ap₂, ◌∙◌}
+use mathlib.Core.Bool.{true}
 use mathlib.Core.List.{List, [], ◌∷◌, map}
 use Prim.Native.Nat.{ℕ, zero, suc, ◌+◌, ◌*◌, ◌-◌, ◌≤◌, ◌<◌}
 use native.Mathlib.Omega.{arith}
@@ -11,9 +12,10 @@ use Rattle.rules.specs.Totalizer.{Arena}
 use Rattle.rules.specs.Build.{Build, with_arena, restructured}
 use Rattle.rules.specs.Encode.{encode_outputs}
 use Rattle.laws.specs.Records.Images.{drop_take}
-use Rattle.records.specs.declared.Marks.{Marks}
-use Rattle.records.specs.Carries.{St, buffer_of, Fits, Carries}
+use Rattle.std.specs.Prelude.{Option, Some, None, IfSome}
+use Rattle.records.specs.Carries.{Held, St, buffer_of, marks_of, Fits, Carries}
 use Rattle.records.proofs.Grow.{fits_less}
+use Rattle.records.proofs.Step.{full_more}
 use Rattle.build_line.specs.Work.{line, line_from}
 use Rattle.encode_outputs.specs.Taken.{entries_by, whole}
 use Rattle.encode_outputs.proofs.Lasts.{whole_grows}
@@ -23,26 +25,34 @@ use Rattle.refine_structure.specs.Based.{Based}
 use Rattle.refine_structure.proofs.Bases.{based_fits, fits_based, based_holds, based_kept}
 use Rattle.encode_reach.specs.Reached.{Reached}
 
-module _ (bs : List ℕ) (e e' τ : St) (k : ℕ) (based : Based bs e e' k) (p : Build) (lo end : ℕ) (z : Structure) (within : k ≤ length p.arena.records) where
+module _ (bs : List ℕ) (e e' τ : St) (k : ℕ) (based : Based bs e e' k) (p : Build) (lo end : ℕ) (x : Option Structure) (within : k ≤ length p.arena.records) where
   abbrev u : Arena
   u = whole (encode_outputs p lo end)
 
-  pub reached : Carries e' τ u → (Fits e' p.arena → Slots z p) → Reached bs e τ (encode_outputs p lo end) z
+  -- outputs change no slots
+  kept_slots : (x : Option Structure) → IfSome x (λ z. Slots z p) → IfSome x (λ z. Slots z (encode_outputs p lo end))
   unfolding encode_outputs with_arena restructured
+  kept_slots None h = tt
+  kept_slots (Some z) h = record { tares_are = h.tares_are; tares_many = h.tares_many; buckets_are = h.buckets_are; buckets_many = h.buckets_many }
+
+  pub reached : Carries e' τ u → (Fits e' p.arena → IfSome x (λ z. Slots z p)) → Reached bs e τ (encode_outputs p lo end) x
   reached c named = record {
     same_store = c.same_store ∙ based.same_length;
     same_buffer = c.same_buffer ∙ ap length based.same_buffer;
     kept_store = based_kept bs e e' k based u τ c;
-    kept_buffer = ap (λ (m : Marks). take m.words (buffer_of τ)) (sym based.same_marks) ∙
-        (c.kept_buffer ∙ ap₂ (λ (m : Marks) (b : List ℤ). take m.words b) based.same_marks based.same_buffer);
+    kept_buffer = ap (λ (m : Held). take m.words (buffer_of τ)) (sym based.same_marks) ∙
+        (c.kept_buffer ∙ ap₂ (λ (m : Held) (b : List ℤ). take m.words b) based.same_marks based.same_buffer);
     fit = λ f.
-        let f' : Fits e' u = based_fits bs e e' k based u f in
-        let h : Slots z p = named (fits_less e' p.arena u (whole_grows p lo end) f') in (
+        let f' : Fits e' u = based_fits bs e e' k based u f in (
           based_holds bs e e' k based u τ (omega (arith, within, (whole_grows p lo end).records_grow)) (c.fit f'),
-          record { tares_are = h.tares_are; tares_many = h.tares_many; buckets_are = h.buckets_are; buckets_many = h.buckets_many },
+          kept_slots x (named (fits_less e' p.arena u (whole_grows p lo end) f')),
         );
     full = λ n. c.full (λ f'. n (fits_based bs e e' k based u f'));
   }
+
+  -- the room ended on the way
+  pub reached_full : Carries e' τ p.arena → (marks_of τ).full ≡ true → (Fits e' p.arena → IfSome x (λ z. Slots z p)) → Reached bs e τ (encode_outputs p lo end) x
+  reached_full c full named = reached (full_more e' τ p.arena u c full (whole_grows p lo end)) named
 
 -- The queue by its words ------------------------------------------------------------------------------------------------------------
 

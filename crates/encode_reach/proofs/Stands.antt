@@ -14,10 +14,12 @@ use Rattle.rules.specs.Encode.{prepared, encode_outputs, divisor_above}
 use Rattle.laws.specs.WellFormed.Plain.{WellFormed}
 use Rattle.laws.specs.Records.Images.{image_append, drop_take}
 use Rattle.laws.specs.Records.Words.{image_length}
-use Rattle.records.specs.Carries.{St, st, Fits, Carries}
+use Rattle.std.specs.Prelude.{Option, Some, None, IfSome}
+use Rattle.records.specs.Carries.{St, st, at, Fits, Carries}
 use Rattle.encode_outputs.specs.declared.Range.{Range}
 use Rattle.encode_outputs.specs.Taken.{entries_by, entries_at, whole}
 use Rattle.build_begin.specs.declared.Structure.{Structure}
+use Rattle.build_begin.specs.Answer.{structure_marks}
 use Rattle.build_begin.specs.Named.{marks_at, with_marks, Slots}
 use Rattle.build_begin.proofs.Begin.{entry, stored, count_is, tares_count, buckets_count}
 use Rattle.encode_undo.specs.Aside.{Aside}
@@ -28,8 +30,9 @@ use Rattle.encode_reach.specs.Reached.{standing, Reached}
 use Rattle.encode_reach.proofs.Reaching.{reached, saved_by}
 
 -- slots do not look at marks
-pub marked_slots : (z z' : Structure) (c : Build) → z' ≡ with_marks z z'.marks → Slots z c → Slots z' c
-marked_slots z z' c e h =
+pub marked_slots : (z : Structure) (c : Build) (x : Option Structure) → IfSome x (λ y. y ≡ with_marks z y.marks) → Slots z c → IfSome x (λ y. Slots y c)
+marked_slots z c None e h = tt
+marked_slots z c (Some y) e h =
     subst (λ (y : Structure). Slots y c) (sym e) (record {
       tares_are = h.tares_are;
       tares_many = h.tares_many;
@@ -79,21 +82,21 @@ module _ (s : State) (store : List ℕ) (clauses : List ℤ) (w : WellFormed s s
   pub few_wait : (n : ℕ) → n ≡ length b.arena.records → (n ≤ s.records) × (s.records - n ≤ 256)
   few_wait n e = (omega (arith, count_is s store clauses w), omega (arith, count_is s store clauses w, w.formed.waiting_are.few))
 
-  pub entered : (n : ℕ) → n ≡ length b.arena.records → Carries (st store clauses (marks_at s n)) (st store clauses (marks_at s n)) b.arena
+  pub entered : (n : ℕ) → n ≡ length b.arena.records → Carries (st store clauses (at (marks_at s n))) (st store clauses (at (marks_at s n))) b.arena
   entered n e = rw e (entry s store clauses w)
 
   -- and it is reached
-  pub stands_reached : (n : ℕ) (work s' : List ℕ) (c' : List ℤ) (range : Range) (z z' : Structure) → n ≡ length b.arena.records → divisor_above b ≡ false → reaches b ≡ false →
-      Aside s store work n → z ≡ standing s n → z' ≡ with_marks z z'.marks →
-      ((e : St) (p : Build) → Carries e (st store clauses z.marks) p.arena →
+  pub stands_reached : (n : ℕ) (work s' : List ℕ) (c' : List ℤ) (range : Range) (z : Structure) (x : Option Structure) → n ≡ length b.arena.records → divisor_above b ≡ false → reaches b ≡ false →
+      Aside s store work n → z ≡ standing s n → IfSome x (λ y. y ≡ with_marks z y.marks) →
+      ((e : St) (p : Build) → Carries e (st store clauses (at z.marks)) p.arena →
       (Fits e p.arena → Slots z p × (entries_at work (record { node = 1; weight = 2; apart = 8; many = s.records - n }) ≡ p.queue)) →
-      Carries e (st s' c' z'.marks) (whole (encode_outputs p range.lo range.end))) →
-      Reached b.buckets (st store clauses (marks_at s n)) (st s' c' z'.marks) (encode_outputs (prepared b) range.lo range.end) z'
+      Carries e (st s' c' (structure_marks x)) (whole (encode_outputs p range.lo range.end))) →
+      Reached b.buckets (st store clauses (at (marks_at s n))) (st s' c' (structure_marks x)) (encode_outputs (prepared b) range.lo range.end) x
   unfolding standing
-  stands_reached n work s' c' range z z' made d low a ez em finish =
+  stands_reached n work s' c' range z x made d low a ez em finish =
       let slots : Slots z b = subst (λ (y : Structure). Slots y b) (sym ez) (own_slots n) in
-      let start : Carries (st store clauses (marks_at s n)) (st store clauses z.marks) b.arena =
-      subst (λ (y : Structure). Carries (st store clauses (marks_at s n)) (st store clauses y.marks) b.arena) (sym ez) (entered n made) in
-      subst (λ (p : Build). Reached b.buckets (st store clauses (marks_at s n)) (st s' c' z'.marks) (encode_outputs p range.lo range.end) z') (sym (stands b d low))
-      (reached b.buckets (st store clauses (marks_at s n)) (st store clauses (marks_at s n)) (st s' c' z'.marks) 0 (based_self _ _ 0) b range.lo range.end z' (omega arith)
-      (finish (st store clauses (marks_at s n)) b start (λ f. (slots, queue_by n work made a))) (λ f. marked_slots z z' b em slots))
+      let start : Carries (st store clauses (at (marks_at s n))) (st store clauses (at z.marks)) b.arena =
+      subst (λ (y : Structure). Carries (st store clauses (at (marks_at s n))) (st store clauses (at y.marks)) b.arena) (sym ez) (entered n made) in
+      subst (λ (p : Build). Reached b.buckets (st store clauses (at (marks_at s n))) (st s' c' (structure_marks x)) (encode_outputs p range.lo range.end) x) (sym (stands b d low))
+      (reached b.buckets (st store clauses (at (marks_at s n))) (st store clauses (at (marks_at s n))) (st s' c' (structure_marks x)) 0 (based_self _ _ 0) b range.lo range.end x (omega arith)
+      (finish (st store clauses (at (marks_at s n))) b start (λ f. (slots, queue_by n work made a))) (λ f. marked_slots z b x em slots))

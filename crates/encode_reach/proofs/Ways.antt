@@ -18,7 +18,8 @@ use Rattle.rules.specs.Refinement.{merge_structures}
 use Rattle.rules.specs.Encode.{prepared}
 use Rattle.laws.specs.WellFormed.Plain.{WellFormed}
 use Rattle.records.specs.declared.Marks.{Marks}
-use Rattle.records.specs.Carries.{St, st, Fits, Carries, Stores}
+use Rattle.std.specs.Prelude.{Option, Some, None, IfSome}
+use Rattle.records.specs.Carries.{St, st, at, Fits, Carries, Stores}
 use Rattle.build_line.specs.Work.{line, count_at}
 use Rattle.build_first.specs.Ready.{Ready}
 use Rattle.refine_structure.specs.Refined.{Renews, Refinable, Refines}
@@ -57,22 +58,22 @@ module _ (s : State) (store : List ℕ) (clauses : List ℤ) (w : WellFormed s s
     none = none;
   }
 
-module _ (s : State) (store : List ℕ) (τ e : St) (us : List ℕ) (z : Structure) where
-  pub first_structured : s.built ≡ 0 → Carries e τ (build_structure (build_of s store)).arena × (Fits e (build_structure (build_of s store)).arena → Named us z (build_structure (build_of s store))) →
-      Structured (build_of s store) e τ us z
+module _ (s : State) (store : List ℕ) (τ e : St) (us : List ℕ) (x : Option Structure) where
+  pub first_structured : s.built ≡ 0 → Carries e τ (build_structure (build_of s store)).arena × (Fits e (build_structure (build_of s store)).arena → IfSome x (λ z. Named us z (build_structure (build_of s store)))) →
+      Structured (build_of s store) e τ us x
   unfolding unbuilt build_of build_over
   first_structured zero (c, named) =
       let way : prepared (build_of s store) ≡ build_structure (build_of s store) = first_way (build_of s store) (eq-eqb s.built 0 zero) in
-      subst (λ (p : Build). (renews : Renews (build_of s store).buckets e τ p.arena) × (Fits renews.entry p.arena → Named us z p)) (sym way)
+      subst (λ (p : Build). (renews : Renews (build_of s store).buckets e τ p.arena) × (Fits renews.entry p.arena → IfSome x (λ z. Named us z p))) (sym way)
       (record { entry = e; places = 0; based = based_self _ e 0; within = omega arith; carries = c }, named)
 
-  pub refined_structured : s.built ≢ 0 → s.set ≤ largest (build_of s store).queue → Refines (build_of s store) e τ us z → Structured (build_of s store) e τ us z
+  pub refined_structured : s.built ≢ 0 → s.set ≤ largest (build_of s store).queue → Refines (build_of s store) e τ us x → Structured (build_of s store) e τ us x
   unfolding unbuilt reaches build_of build_over
   refined_structured built reach r =
       let off : unbuilt (build_of s store) ≡ false = ne_eqb s.built 0 built in
       let way : prepared (build_of s store) ≡ merge_structures (build_of s store) =
       refined_way (build_of s store) off (le-leb s.set (largest (build_of s store).queue) reach) in
-      subst (λ (p : Build). (renews : Renews (build_of s store).buckets e τ p.arena) × (Fits renews.entry p.arena → Named us z p)) (sym way)
+      subst (λ (p : Build). (renews : Renews (build_of s store).buckets e τ p.arena) × (Fits renews.entry p.arena → IfSome x (λ z. Named us z p))) (sym way)
       (r.renews, r.named)
 
 pub marks_at_fresh : (s : State) (n : ℕ) (m : Marks) → m ≡ marks_at s n → m.fresh ≡ s.fresh
@@ -81,10 +82,15 @@ marks_at_fresh s n m e = ap (λ (x : Marks). x.fresh) e
 
 -- what stands is carried by the marks with which an encode begins
 pub entered_by : (s : State) (store : List ℕ) (clauses : List ℤ) → WellFormed s store clauses → (n : ℕ) → n ≡ length (build_of s store).arena.records → (m : Marks) → m ≡ marks_at s n →
-    Carries (st store clauses (marks_at s n)) (st store clauses m) (build_of s store).arena
+    Carries (st store clauses (at (marks_at s n))) (st store clauses (at m)) (build_of s store).arena
 entered_by s store clauses w n made m e =
-    subst (λ (x : Marks). Carries (st store clauses (marks_at s n)) (st store clauses x) (build_of s store).arena) (sym e) (entered s store clauses w n made)
+    subst (λ (x : Marks). Carries (st store clauses (at (marks_at s n))) (st store clauses (at x)) (build_of s store).arena) (sym e) (entered s store clauses w n made)
 
-pub refines_by : (s : State) (store : List ℕ) (clauses : List ℤ) (n : ℕ) (m : Marks) (τ : St) (us : List ℕ) (z : Structure) → m ≡ marks_at s n → Refines (build_of s store) (st store clauses m) τ us z →
-    Refines (build_of s store) (st store clauses (marks_at s n)) τ us z
-refines_by s store clauses n m τ us z e r = subst (λ (x : Marks). Refines (build_of s store) (st store clauses x) τ us z) e r
+pub refines_by : (s : State) (store : List ℕ) (clauses : List ℤ) (n : ℕ) (m : Marks) (τ : St) (us : List ℕ) (x : Option Structure) → m ≡ marks_at s n →
+    Refines (build_of s store) (st store clauses (at m)) τ us x → Refines (build_of s store) (st store clauses (at (marks_at s n))) τ us x
+refines_by s store clauses n m τ us x e r = subst (λ (y : Marks). Refines (build_of s store) (st store clauses (at y)) τ us x) e r
+
+-- the bounds of a first build, of those of a refinement
+pub bounded : (x : Option Structure) → IfSome x (λ z. (z.head ≤ 512) × (z.tares_used ≤ 19) × (z.buckets_used ≤ 20)) → IfSome x (λ z. (z.head ≤ 512) × (z.tares_used ≤ 19))
+bounded None h = tt
+bounded (Some z) h = (h.0, h.1)

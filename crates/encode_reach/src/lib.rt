@@ -1,11 +1,12 @@
 // The build that an encode reaches: what stands, the first build or a refinement, then the outputs of the range and what waits.
 #![tactic(auto)]
 
-ghost use Rattle.std.specs.Prelude.{◌≡◌, ◌≤◌, length, take};
+ghost use Rattle.std.specs.Prelude.{◌≡◌, IfSome, ◌≤◌, length, take};
 ghost use Rattle.rules.specs.Build.{build_of, largest};
 ghost use Rattle.rules.specs.Encode.{prepared, encode_outputs};
 ghost use Rattle.laws.specs.WellFormed.Plain.{WellFormed};
-ghost use Rattle.records.specs.Carries.{st};
+ghost use Rattle.records.specs.Carries.{st, at};
+ghost use Rattle.build_begin.specs.Answer.{structure_marks};
 ghost use Rattle.build_begin.specs.Named.{marks_at};
 ghost use Rattle.encode_undo.specs.Aside.{Aside};
 ghost use Rattle.encode_case.specs.Case.{reaches};
@@ -44,16 +45,17 @@ fn standing(s: State, n: usize) -> Structure
     }
 }
 
-// The first build or the refinement of a state whose largest waiting weight reaches the divisor. Grows as those do.
+// The first build or the refinement of a state whose largest waiting weight reaches the divisor; none where the room ends. Grows
+// as those do.
 fn structured(
     s: State,
     store: &mut [u32],
     clauses: &mut [i32],
     work: &mut [u32],
     n: usize,
-) -> Structure
+) -> Option<Structure>
     requires { WellFormed s store.old clauses.old × (n ≡ length (build_of s store.old).arena.records) × (s.set ≤ largest (build_of s store.old).queue) × (13312 ≤ length work.old) }
-    ensures { Structured (build_of s store.old) (st store.old clauses.old (marks_at s n)) (st store.new clauses.new result.marks) work.new result × (length work.new ≡ length work.old) × (result.head ≤ 512) × (result.tares_used ≤ 19) }
+    ensures { Structured (build_of s store.old) (st store.old clauses.old (at (marks_at s n))) (st store.new clauses.new (structure_marks result)) work.new result × (length work.new ≡ length work.old) × IfSome result (λ z. (z.head ≤ 512) × (z.tares_used ≤ 19)) }
 {
     let m = build_begin::marks_at(s, n);
     let used = Store {
@@ -68,7 +70,8 @@ fn structured(
     }
 }
 
-// The first build or the refinement, with the outputs of the range. Grows as those do, and a define for each output.
+// The first build or the refinement, with the outputs of the range; none where the room ends. Grows as those do, and a define for
+// each output.
 fn rebuilt(
     s: State,
     store: &mut [u32],
@@ -76,11 +79,11 @@ fn rebuilt(
     work: &mut [u32],
     n: usize,
     range: Range,
-) -> Structure
+) -> Option<Structure>
     requires { Begins s store.old clauses.old range × (n ≡ length (build_of s store.old).arena.records) × (s.set ≤ largest (build_of s store.old).queue) × (16384 ≤ length work.old) }
-    ensures { Reached (build_of s store.old).buckets (st store.old clauses.old (marks_at s n)) (st store.new clauses.new result.marks) (encode_outputs (prepared (build_of s store.old)) range.lo range.end) result × (length work.new ≡ length work.old) × (take 3072 work.new ≡ take 3072 work.old) }
+    ensures { Reached (build_of s store.old).buckets (st store.old clauses.old (at (marks_at s n))) (st store.new clauses.new (structure_marks result)) (encode_outputs (prepared (build_of s store.old)) range.lo range.end) result × (length work.new ≡ length work.old) × (take 3072 work.new ≡ take 3072 work.old) }
 {
-    let z = structured(s, store, clauses, &mut work[BUILD..], n);
+    let z = structured(s, store, clauses, &mut work[BUILD..], n)?;
     let queue = Places {
         node: BUILD + z.head,
         weight: BUILD_WEIGHTS + z.head,
@@ -90,8 +93,8 @@ fn rebuilt(
     encode_outputs::completed(store, clauses, work, z, range, queue)
 }
 
-// The build that an encode reaches with the outputs of its range; `due` says whether the first build or a refinement is. Grows as
-// those do, and a define for each output.
+// The build that an encode reaches with the outputs of its range, none where the room ends; `due`, a fact of the build that
+// the promise names, says whether the first build or a refinement is. Grows as those do, and a define for each output.
 pub fn reach(
     s: State,
     store: &mut [u32],
@@ -100,9 +103,9 @@ pub fn reach(
     n: usize,
     due: bool,
     range: Range,
-) -> Structure
+) -> Option<Structure>
     requires { Begins s store.old clauses.old range × (n ≡ length (build_of s store.old).arena.records) × (due ≡ reaches (build_of s store.old)) × Aside s store.old work.old n }
-    ensures { Reached (build_of s store.old).buckets (st store.old clauses.old (marks_at s n)) (st store.new clauses.new result.marks) (encode_outputs (prepared (build_of s store.old)) range.lo range.end) result × (length work.new ≡ length work.old) × (take 3072 work.new ≡ take 3072 work.old) }
+    ensures { Reached (build_of s store.old).buckets (st store.old clauses.old (at (marks_at s n))) (st store.new clauses.new (structure_marks result)) (encode_outputs (prepared (build_of s store.old)) range.lo range.end) result × (length work.new ≡ length work.old) × (take 3072 work.new ≡ take 3072 work.old) }
 {
     if due {
         rebuilt(s, store, clauses, work, n, range)

@@ -9,7 +9,7 @@ use lib.Dec.{leb, eqb}
 use lib.ListN.{length}
 use lib.IntN.{ℤ, pos, neg_ℤ}
 use borrow.Author.Tests.{le-leb, lt-leb, eq-eqb, ne_eqb}
-use Rattle.std.specs.Prelude.{Result, Ok, Err}
+use Rattle.std.specs.Prelude.{Result, Ok, Err, Some, None}
 use Rattle.rules.specs.declared.Refusal.{Refusal}
 use Rattle.rules.specs.declared.Refusal.TheVariants.{NotEncoded}
 use Rattle.rules.specs.Records.{Kind, leaf, Node, node_at, entries, literal_word, word_literal}
@@ -17,6 +17,7 @@ use Rattle.rules.specs.Totalizer.{number_of, literal_of}
 use Rattle.rules.specs.Build.{Build, output_weight, root, root_node, largest, unbuilt}
 use Rattle.rules.specs.Enforce.{set_tares, output_answer, root_answer, built_answer, one_answer, enforce}
 use Rattle.laws.specs.Records.Words.{literal_word_literal}
+use Rattle.totalizer_find.specs.Found.{number_word}
 use Rattle.enforce_answer.specs.Ends.{Ended}
 use Rattle.enforce_answer.specs.Stored.{Stored}
 use Rattle.enforce_answer.proofs.Finish.{ended_empty, ended_refused}
@@ -30,9 +31,16 @@ ended_as c d r e h = subst (λ (z : Option (List ℤ)). Ended z c d r) e h
 negated_literal : (x : ℤ) (w q : ℕ) → w ≡ literal_word x → q ≡ literal_word (neg_ℤ (word_literal w)) → word_literal q ≡ neg_ℤ x
 negated_literal x w q e f = ap word_literal f ∙ (literal_word_literal (neg_ℤ (word_literal w)) ∙ ap neg_ℤ (ap word_literal e ∙ literal_word_literal x))
 
-word_none : (n : ℕ) → n ≡ 0 → literal_word (pos n) ≡ 0
-unfolding literal_word
-word_none n e = omega arith
+-- what was found, as a number
+number_none : (n : ℕ) → None ≡ number_word n → n ≡ 0
+unfolding number_word
+number_none zero e = refl
+number_none (suc n) e = absurd (cc)
+
+number_some : (n w : ℕ) → Some w ≡ number_word n → (n ≡ 0 → ⊥) × (w ≡ literal_word (pos n))
+unfolding number_word
+number_some zero w e = absurd (cc)
+number_some (suc n) w e = (λ z. omega arith, cc)
 
 -- one input
 module _ (b : Build) (u m d : ℕ) (is : m ≡ largest b.queue) (at : b.set ≡ d) (c : List ℤ) where
@@ -88,32 +96,29 @@ module _ (b : Build) (u w top : ℕ) (weight : w ≡ output_weight b) (at : root
   root_past : u / w < m → root_answer b u ≡ output_answer b u (number_of b.arena.records top (u / w + 1))
   root_past h = root_is ∙ ap (λ (t : Bool). cond t (some []) (output_answer b u (number_of b.arena.records top (u / w + 1)))) (lt-leb m (u / w) h)
 
-  module _ (o : ℕ) (found : o ≡ literal_word (pos (number_of b.arena.records top (u / w + 1)))) (h : u / w < m) where
-    pub root_undefined : o ≡ 0 → Ended (root_answer b u) c c (Err NotEncoded)
-    unfolding literal_word
+  module _ (h : u / w < m) where
+    pub root_undefined : None ≡ number_word (number_of b.arena.records top (u / w + 1)) → Ended (root_answer b u) c c (Err NotEncoded)
     root_undefined e =
         ended_as c c (Err NotEncoded)
-        (sym (root_past h ∙ output_none b u (number_of b.arena.records top (u / w + 1)) (omega arith))) (ended_refused c)
+        (sym (root_past h ∙ output_none b u (number_of b.arena.records top (u / w + 1)) (number_none (number_of b.arena.records top (u / w + 1)) e))) (ended_refused c)
 
-    pub root_output : (q : ℕ) (ts : List ℕ) (d : List ℤ) (r : Result ℕ Refusal) → (o ≡ 0 → ⊥) → q ≡ literal_word (neg_ℤ (word_literal o)) → b.tares ≡ ts →
+    pub root_output : (o q : ℕ) (ts : List ℕ) (d : List ℤ) (r : Result ℕ Refusal) → Some o ≡ number_word (number_of b.arena.records top (u / w + 1)) → q ≡ literal_word (neg_ℤ (word_literal o)) → b.tares ≡ ts →
         Ended (some (word_literal q ∷ set_tares ts (w - 1 - u % w))) c d r → Ended (root_answer b u) c d r
-    root_output q ts d r e f g p =
+    root_output o q ts d r e f g p =
+        let (defined, found) = number_some (number_of b.arena.records top (u / w + 1)) o e in
         ended_as c d r
-        (sym (root_past h ∙ (output_some b u (number_of b.arena.records top (u / w + 1)) (λ z. e (defined_word z)) ∙
+        (sym (root_past h ∙ (output_some b u (number_of b.arena.records top (u / w + 1)) defined ∙
         (ap₂ (λ (z : ℤ) (v : ℕ). some (z ∷ set_tares b.tares (v - 1 - u % v)))
         (sym (negated_literal (pos (number_of b.arena.records top (u / w + 1))) o q found f)) (sym weight) ∙
         ap (λ (l : List ℕ). some (word_literal q ∷ set_tares l (w - 1 - u % w))) g)))) p
-      where
-        defined_word : number_of b.arena.records top (u / w + 1) ≡ 0 → o ≡ 0
-        defined_word z = found ∙ word_none (number_of b.arena.records top (u / w + 1)) z
 
 -- what the words have of a build
 module _ (b : Build) (store : List ℕ) (records : ℕ) (h : Stored b store records) where
   pub most_is : (top m : ℕ) → m ≡ (node_at h.rs top).maximum → m ≡ (node_at b.arena.records top).maximum
   most_is top m e = e ∙ sym (ap (λ (n : Node). n.maximum) (h.node_is top))
 
-  pub found_is : (top v o : ℕ) → o ≡ literal_word (pos (number_of h.rs top v)) → o ≡ literal_word (pos (number_of b.arena.records top v))
-  found_is top v o e = e ∙ ap (λ (n : ℕ). literal_word (pos n)) (sym (h.number_is top v))
+  pub found_is : (top v : ℕ) → number_word (number_of h.rs top v) ≡ number_word (number_of b.arena.records top v)
+  found_is top v = ap number_word (sym (h.number_is top v))
 
   pub waits_is : (m : ℕ) → m ≡ largest (entries h.rs) → m ≡ largest b.queue
   waits_is m e = e ∙ ap largest (sym h.queue_is)

@@ -68,7 +68,7 @@ fn put_answer(scratch: &mut [i32], w: u32, tares: &[u32], x: u64) -> Result<usiz
     Ok(n)
 }
 
-// The root: the first bucket, 0 where there is none. Constant time.
+// The root: the first bucket, 0 where there is none, as in the rules. Constant time.
 fn root(buckets: &[u32]) -> u32
     ensures { result ≡ get_or buckets.now 0 0 }
 {
@@ -108,10 +108,7 @@ fn root_answer(
     if store.maximum(top) as u64 <= j {
         return Ok(0);
     }
-    let o = totalizer_find::find(store, top, (j + 1) as u32);
-    if o == 0 {
-        return Err(Refusal::NotEncoded);
-    }
+    let o = totalizer_find::find(store, top, (j + 1) as u32).ok_or(Refusal::NotEncoded)?;
     put_answer(scratch, numbers::negated(o), tares, w - 1 - u % w)
 }
 

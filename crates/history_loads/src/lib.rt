@@ -9,7 +9,7 @@ use rules::State;
 use std::io;
 use std::io::Write;
 
-// Of a clause so far: whether a literal holds, and which one may be made true.
+// Of a clause so far: whether a literal holds, and which one may be made true; either may be so without the other.
 #[derive(Clone, Copy, Default)]
 struct Clause {
     met: bool,

@@ -26,7 +26,7 @@ pub fn answer<W: Write>(out: &mut W, a: Result<u64, Refusal>) -> io::Result<()> 
     }
 }
 
-// The number of a refusal, 0 for none.
+// The number of a refusal, 0 for none, as C has it.
 pub fn refusal<W: Write>(out: &mut W, a: Result<(), Refusal>) -> io::Result<()> {
     number(
         out,
@@ -84,7 +84,8 @@ pub fn digest_literals<W: Write>(out: &mut W, c: &[i32]) -> io::Result<()> {
     number(out, digest_of((0..c.len()).map(|i| numbers::word_at(c, i))))
 }
 
-// How many words the used records take, all of the store where there are fewer. Constant time.
+// How many words the used records take, all of the store where there are fewer; of the words no record is read, so it takes no
+// `Store`. Constant time.
 pub fn used_words(s: &[u32], records: usize) -> usize
     ensures { result ≤ length s.now }
 {

@@ -22,8 +22,8 @@ fn with_digit(v: u64, b: u8) -> u64 {
     }
 }
 
-// Number k of a line, counted from 1: the digits behind as many spaces, 0 where there is none. A sign is passed over. Linear in
-// the line.
+// Number k of a line, counted from 1: the digits behind as many spaces, 0 where there is none, with which a call of a short line
+// goes on. A sign is passed over. Linear in the line.
 pub fn number(line: &[u8], k: usize) -> u64 {
     line.split(|b| *b == b' ')
         .nth(k)
@@ -40,7 +40,8 @@ pub fn long(line: &[u8], k: usize) -> usize {
     number(line, k) as usize
 }
 
-// The word of the signed number that is number 1 of a line, 0 where that has over 31 bits. Linear in the line.
+// The word of the signed number that is number 1 of a line. Where that has over 31 bits it is 0, which is no
+// literal's word. Linear in the line.
 pub fn literal(line: &[u8]) -> u32 {
     let negative = byte(line, 2) == b'-';
     short(line, 1)

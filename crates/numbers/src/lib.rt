@@ -24,7 +24,7 @@ pub fn top_bit(x: u64) -> u32
     x.max(1).ilog2()
 }
 
-// 2 to the k, 0 where that does not fit. Constant time.
+// 2 to the k in 64 bits. Constant time.
 pub fn power(k: u32) -> u64
     ensures { result ≡ 2 ^ k % 2 ^ 64 }
 {
@@ -45,7 +45,7 @@ fn lawful(x: i32) -> bool
     (1..=rules::MOST_VARIABLE).contains(&x.unsigned_abs())
 }
 
-// The word of a literal, 0 for a number that is none. Constant time.
+// The word of a literal, 0 for a number that is none, as `word_at` gives it. Constant time.
 fn literal_word(x: i32) -> u32
     ensures { result ≡ word_or_none x }
 {
@@ -63,7 +63,7 @@ pub fn lawful_at(lits: &[i32], i: usize) -> bool
     i < lits.len() && lawful(lits[i])
 }
 
-// The word of the literal at i, 0 where there is none. Constant time.
+// The word of the literal at i, 0 where there is none: callers have tested it by `lawful_at`, or print it. Constant time.
 pub fn word_at(lits: &[i32], i: usize) -> u32
     ensures { result ≡ word_or_none (signed_at lits.now i) }
 {

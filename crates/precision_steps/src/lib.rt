@@ -18,7 +18,7 @@ use rules::{Refusal, Set, State};
 pub fn next(store: Store) -> u64
     ensures { (rs : List Record) → Reads store.entry rs → result ≡ 2 ^ top_bit (largest (entries rs)) }
 {
-    numbers::power(numbers::top_bit(records_waiting::largest(store) as u64))
+    numbers::power(numbers::top_bit(u64::from(records_waiting::largest(store))))
 }
 
 // The bound that outputs of weight w can hold. Constant time.
@@ -47,7 +47,7 @@ pub fn coarse(built: u64, tares: u32, u: u64) -> u64
     }
 }
 
-// Refusal 8: neither 0 nor a power of two. At most 63 turns.
+// Refusal 8: neither 0 nor a power of two. Constant time.
 fn divisor_unlawful(divisor: u64) -> bool
     ensures { result ≡ divisor_unlawful divisor }
 {
@@ -68,7 +68,7 @@ fn divisor_coarser(built: u64, set: u64, divisor: u64) -> bool
     built != 0 && set < divisor_of(divisor)
 }
 
-// The first refusal of a divisor; `formed` says whether what was lent is well formed. At most 63 turns.
+// The first refusal of a divisor; `formed` says whether what was lent is well formed. Constant time.
 fn check_divisor(s: State, formed: bool, divisor: u64) -> Result<(), Refusal>
     ensures { result ≡ answer_of (first_true ((12, not formed) ∷ (8, divisor_unlawful divisor) ∷ (9, not (eqb s.built 0) && ltb s.set (divisor_of divisor)) ∷ [])) }
 {

@@ -56,8 +56,6 @@ use Rattle.records.proofs.Store.entry_weight.Kinds as entry-weight-kinds
 use Rattle.records.proofs.Store.entry_weight.Reads as entry_weight
 use Rattle.records.proofs.put_record.Kinds as put-record-kinds
 use Rattle.records.proofs.put_record.Reads as put_record
-use Rattle.records.proofs.full.Kinds as full-kinds
-use Rattle.records.proofs.full.Reads as full
 
 -- two kinds of one word are one
 word_once : (a b : Kind) → kind_word a ≡ kind_word b → a ≡ b
@@ -163,6 +161,3 @@ entry_weight_determined κs a x y e f p q rs h = p rs h ∙ sym (q rs h)
 pub put_record_determined : (κs : Lfts 1) (a : Dens κs put-record-kinds.ps) (x y : (res_t put-record-kinds.r κs).Denot) (e f : AtExit (ended_of 1 put-record-kinds.ps put-record-kinds.r) κs) →
     put_record.Post κs a x e → put_record.Post κs a y f → e.0.now ≡ f.0.now
 put_record_determined κs a x y e f p q = p ∙ sym q
-
-pub full_determined : One_result 0 full-kinds.ps full-kinds.r full.Post
-full_determined κs a x y e f p q = p ∙ sym q

@@ -16,9 +16,8 @@ use Rattle.rules.specs.Totalizer.{Arena}
 use Rattle.rules.specs.Build.{clause_words}
 use Rattle.laws.specs.Records.Words.{record_image_length, image_length}
 use Rattle.laws.specs.WellFormed.Whole.{records_length}
-use Rattle.records.specs.declared.Marks.{Marks}
 use Rattle.records.specs.Words.{put_record}
-use Rattle.records.specs.Carries.{St, st, store_of, buffer_of, marks_of, written, peak, Fits, Holds, Carries, Steps, Makes, Lent, read_arena}
+use Rattle.records.specs.Carries.{Held, St, st, store_of, buffer_of, marks_of, written, peak, Fits, Holds, Carries, Steps, Makes, Lent, read_arena}
 use Rattle.records_words.specs.Words.{laid}
 use Rattle.records_words.proofs.Lay.{laid_length, laid_again, laid_front, front_laid}
 use Rattle.records.proofs.Image.{image_more}
@@ -61,7 +60,7 @@ begins σ h =
       }));
     }
 
-marks_same : (m n : Marks) → m.records ≡ n.records → m.words ≡ n.words → m.fresh ≡ n.fresh → m.clauses ≡ n.clauses → m.full ≡ n.full → m ≡ n
+marks_same : (m n : Held) → m.records ≡ n.records → m.words ≡ n.words → m.fresh ≡ n.fresh → m.clauses ≡ n.clauses → m.full ≡ n.full → m ≡ n
 marks_same m n a b c d f =
     ap (λ (x : ℕ). record { records = x; words = m.words; fresh = m.fresh; clauses = m.clauses; full = m.full }) a ∙
     (ap (λ (x : ℕ). record { records = n.records; words = x; fresh = m.fresh; clauses = m.clauses; full = m.full }) b ∙
@@ -179,7 +178,7 @@ kept_below s n k ws h i =
 
 -- A change in place ends one entry and begins another: the patched store under the old marks --------------------------------
 
-pub rebase : (s₀ : List ℕ) (c₀ : List ℤ) (m₀ : Marks) (s s' : List ℕ) (c : List ℤ) (m : Marks) (t : Arena) (rs : List Record) →
+pub rebase : (s₀ : List ℕ) (c₀ : List ℤ) (m₀ : Held) (s s' : List ℕ) (c : List ℤ) (m : Held) (t : Arena) (rs : List Record) →
     Carries (st s₀ c₀ m₀) (st s c m) t → m.full ≡ false → s' ≡ laid (image_of rs) s₀ → length rs ≡ length t.records → peak rs < 4294967296 →
     Carries (st s' c m₀) (st s' c m) (record { records = rs; fresh = t.fresh; clauses = t.clauses })
 unfolding written

@@ -1,7 +1,7 @@
 -- Steps of a rule over lent memory, composed.
 use mathlib.Core.Path.{◌≡◌, refl, sym, ap, ◌∙◌, subst}
 use mathlib.Core.Logic.{◌⊎◌, inl, inr}
-use mathlib.Core.Bool.{Bool, true, false, true≢false}
+use mathlib.Core.Bool.{true, false, true≢false}
 use mathlib.Core.List.{List, ◌++◌}
 use Prim.Native.Nat.{ℕ, ◌*◌, ◌≤◌}
 use native.Mathlib.Omega.{arith}
@@ -12,9 +12,7 @@ use Rattle.rules.specs.Records.{image_of}
 use Rattle.rules.specs.Totalizer.{Arena}
 use Rattle.rules.specs.Build.{clause_words}
 use Rattle.laws.specs.Records.Words.{image_length}
-use Rattle.records.specs.declared.Marks.{Marks}
-use Rattle.records.specs.Words.{full_of}
-use Rattle.records.specs.Carries.{St, st, store_of, buffer_of, marks_of, written, Fits, Holds, Carries, Steps, Makes, Stores}
+use Rattle.records.specs.Carries.{Held, ended, St, st, store_of, buffer_of, marks_of, written, Fits, Holds, Carries, Steps, Makes, Stores}
 use Rattle.records_words.specs.Words.{laid}
 use Rattle.records_words.proofs.Lay.{laid_length, laid_front}
 use Rattle.records.proofs.Grow.{Grows, fits_less, fits_or}
@@ -39,19 +37,19 @@ over e τ t u h p q = record {
   full = λ f. h.full p;
 }
 
+-- full: what needs more is carried too
+pub full_more : (e σ : St) (t u : Arena) → Carries e σ t → (marks_of σ).full ≡ true → Grows t u → Carries e σ u
+full_more e σ t u h k g =
+    let nay : Fits e t → ⊥ = λ q. true≢false (sym k ∙ (h.fit q).not_full) in
+    over e σ t u h nay (λ q. nay (fits_less e t u g q))
+
 -- already full: nothing more is done, and the rule would need more still
 pub stop : (σ : St) (f : Arena → Arena) → ((t : Arena) → Grows t (f t)) → (marks_of σ).full ≡ true → Steps σ σ f
-stop σ f g k = record {
-  go = λ e t h.
-      let nay : Fits e t → ⊥ = λ q. true≢false (sym k ∙ (h.fit q).not_full) in
-      over e σ t (f t) h nay (λ q. nay (fits_less e t (f t) (g t) q));
-}
+stop σ f g k = record { go = λ e t h. full_more e σ t (f t) h k (g t) }
 
--- marks that are full stay as they are with the full mark set
-pub full_kept : (m z : Marks) → z ≡ full_of m → m.full ≡ true → m ≡ z
-unfolding full_of
-full_kept m z ez k =
-    ap (λ (b : Bool). record { records = m.records; words = m.words; fresh = m.fresh; clauses = m.clauses; full = b }) k ∙ sym ez
+-- the room ended at f: g after it does nothing more
+pub ended_then : (σ τ : St) (f g : Arena → Arena) → Steps σ τ f → ((t : Arena) → Grows t (g t)) → (marks_of τ).full ≡ true → Steps σ τ (λ t. g (f t))
+ended_then σ τ f g p grows k = steps_then σ τ τ f g p (stop τ g grows k)
 
 -- not full: what is carried fits, and is held
 pub going : (e σ : St) (t : Arena) → Carries e σ t → (marks_of σ).full ≡ false → Fits e t × Holds e σ t
@@ -62,10 +60,9 @@ going e σ t h k = go (fits_or e t)
     go (inr f) = absurd (true≢false (sym (h.full f) ∙ k))
 
 -- the room ends here
-pub filled : (s : List ℕ) (c : List ℤ) (m r : Marks) (f : Arena → Arena) → m.full ≡ false → r ≡ full_of m →
-    ((e : St) (t : Arena) → Carries e (st s c m) t → Fits e t → Holds e (st s c m) t → Fits e (f t) → ⊥) → Steps (st s c m) (st s c r) f
-unfolding full_of
-filled s c m r f k er nay = rw er (record {
+pub filled : (s : List ℕ) (c : List ℤ) (m : Held) (f : Arena → Arena) → m.full ≡ false →
+    ((e : St) (t : Arena) → Carries e (st s c m) t → Fits e t → Holds e (st s c m) t → Fits e (f t) → ⊥) → Steps (st s c m) (st s c ended) f
+filled s c m f k nay = record {
   go = λ e t h. let g : Fits e t × Holds e (st s c m) t = going e (st s c m) t h k in record {
     same_store = h.same_store;
     same_buffer = h.same_buffer;
@@ -74,7 +71,7 @@ filled s c m r f k er nay = rw er (record {
     fit = λ q. absurd (nay e t h g.0 g.1 q);
     full = λ q. refl;
   };
-})
+}
 
 pub kept_by : (n : ℕ) (c xs : List ℤ) → n ≤ length c → take n (laid (take n c ++ xs) c) ≡ take n c
 unfolding laid
@@ -119,7 +116,7 @@ held_stores e σ t h = record {
 }
 
 -- a rule that depends on the arena, where the store holds it
-pub held : (s : List ℕ) (c : List ℤ) (m : Marks) (τ : St) (f : Arena → Arena) → m.full ≡ false →
+pub held : (s : List ℕ) (c : List ℤ) (m : Held) (τ : St) (f : Arena → Arena) → m.full ≡ false →
     ((t : Arena) → Stores s m.records t.records → m.fresh ≡ t.fresh → (g : Arena → Arena) × Steps (st s c m) τ g × (g t ≡ f t)) → Steps (st s c m) τ f
 held s c m τ f k by = record {
   go = λ e t h.
@@ -149,6 +146,10 @@ makes_full σ τ x f k p = record {
   go = λ e t h. let c = p.go e t h in (c, λ q. absurd (true≢false (sym k ∙ (c.fit q).not_full)));
 }
 
+-- where the room ended, what is named may be another thing
+pub makes_any : {X : Type 0} (σ τ : St) (x y : X) (f : Arena → Arena × X) → (marks_of τ).full ≡ true → Makes σ τ x f → Makes σ τ y f
+makes_any σ τ x y f k p = makes_full σ τ y f k (makes_steps σ τ x f p)
+
 -- one rule, then one that depends on what the first names
 pub makes_then : {X Y : Type 0} (σ τ υ : St) (x : X) (y : Y) (f : Arena → Arena × X) (g : X → Arena → Arena × Y) →
     ((x : X) (t : Arena) → Grows t (g x t).0) → Makes σ τ x f → Makes τ υ y (g x) → Makes σ υ y (λ t. g (f t).1 (f t).0)
@@ -165,6 +166,12 @@ makes_then {X} {Y} σ τ υ x y f g grows p q = record {
       λ k. absurd (n (fits_less e u (g z u).0 (grows z u) k)),
     )
 
+-- the room ended at f: what g after it names may be anything
+pub ended_makes : {X Y : Type 0} (σ τ : St) (x : X) (y : Y) (f : Arena → Arena × X) (g : X → Arena → Arena × Y) →
+    Makes σ τ x f → ((x : X) (t : Arena) → Grows t (g x t).0) → (marks_of τ).full ≡ true → Makes σ τ y (λ t. g (f t).1 (f t).0)
+ended_makes σ τ x y f g p grows k =
+    makes_then σ τ τ x y f g grows p (makes_full τ τ y (g x) k (stop τ (λ t. (g x t).0) (grows x) k))
+
 -- A loop: what is left of the work, from here, is the whole work -------------------------------------------------------
 
 pub record Rest (σ₀ σ : St) (f g : Arena → Arena) : Type 0 where
@@ -180,6 +187,12 @@ rest_turn σ₀ σ τ f g g' p q eq r = record {
 
 pub rest_end : (σ₀ σ : St) (f g : Arena → Arena) → ((t : Arena) → g t ≡ t) → Rest σ₀ σ f g → Steps σ₀ σ f
 rest_end σ₀ σ f g eq r = record { go = λ e t h. let x = r.at e t h in subst (Carries e σ) (sym (eq x.0) ∙ x.2) x.1 }
+
+-- the room ended on the way
+pub rest_full : (σ₀ σ : St) (f g : Arena → Arena) → ((t : Arena) → Grows t (g t)) → (marks_of σ).full ≡ true → Rest σ₀ σ f g → Steps σ₀ σ f
+rest_full σ₀ σ f g grows k r = record {
+  go = λ e t h. let x = r.at e t h in subst (Carries e σ) x.2 (full_more e σ x.0 (g x.0) x.1 k (grows x.0));
+}
 
 -- A loop that names something: what is left of the work, from here and with what was named, is the whole work -------------------
 

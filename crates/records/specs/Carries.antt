@@ -1,6 +1,6 @@
 -- What lent memory carries: the records and clauses of an arena, as far as there is room. The contracts of the crates above cite
 -- `Steps` and `Makes` over the rules' own functions.
-use Rattle.std.specs.Prelude.{◌≡◌, true, false, List, [], ◌∷◌, ◌++◌, ℕ, ◌+◌, ◌*◌, ◌≤◌, ◌<◌, max, length, take, ℤ}
+use Rattle.std.specs.Prelude.{◌≡◌, Bool, true, false, Option, Some, None, List, [], ◌∷◌, ◌++◌, ℕ, ◌+◌, ◌*◌, ◌≤◌, ◌<◌, max, length, take, ℤ}
 use Rattle.rules.specs.Records.{Record, node_of, image_of, records_of}
 use Rattle.rules.specs.Totalizer.{Arena}
 use Rattle.rules.specs.Build.{clause_words}
@@ -8,9 +8,30 @@ use Rattle.records.specs.declared.Marks.{Marks}
 use Rattle.records.specs.declared.Store.{Store}
 use Rattle.records_words.specs.Words.{laid}
 
--- store, clause buffer and marks
+-- what marks say of lent memory, and whether the room has ended
+pub record Held : Type 0 where
+  pub records : ℕ
+  pub words : ℕ
+  pub fresh : ℕ
+  pub clauses : ℕ
+  pub full : Bool
+
+-- marks: the room has not ended
+abbrev pub at : Marks → Held
+at m = record { records = m.records; words = m.words; fresh = m.fresh; clauses = m.clauses; full = false }
+
+-- no marks: the room has ended
+abbrev pub ended : Held
+ended = record { records = 0; words = 0; fresh = 0; clauses = 0; full = true }
+
+-- what a step answers: the marks after it, or none where the room ended
+abbrev pub after : Option Marks → Held
+after (Some m) = at m
+after None = ended
+
+-- store, clause buffer and what the marks say
 pub data St : Type 0 where
-  st : List ℕ → List ℤ → Marks → St
+  st : List ℕ → List ℤ → Held → St
 
 abbrev pub store_of : St → List ℕ
 store_of (st s c m) = s
@@ -18,7 +39,7 @@ store_of (st s c m) = s
 abbrev pub buffer_of : St → List ℤ
 buffer_of (st s c m) = c
 
-abbrev pub marks_of : St → Marks
+abbrev pub marks_of : St → Held
 marks_of (st s c m) = m
 
 -- the buffer's used words: those of the entry e, then the clauses
@@ -58,7 +79,7 @@ pub record Holds (e σ : St) (t : Arena) : Type 0 where
   pub words_low : (marks_of e).words ≤ length (written e t)
   pub count_low : (marks_of σ).clauses ≤ (marks_of σ).words
 
--- σ carries t: exactly t where it fits, else it is marked full; in both cases what e used is kept
+-- σ carries t: exactly t where it fits, else the room has ended; in both cases what e used is kept
 pub record Carries (e σ : St) (t : Arena) : Type 0 where
   pub same_store : length (store_of σ) ≡ length (store_of e)
   pub same_buffer : length (buffer_of σ) ≡ length (buffer_of e)

@@ -1,6 +1,5 @@
 -- Word-level steps of the leaves; what they mean for records stands in proofs/Read.
-use Rattle.std.specs.Prelude.{true, cond, List, [], ◌∷◌, ◌++◌, ℕ, ◌+◌, ◌*◌, ◌/◌, eqb, ltb, length, get_or, take, drop}
-use Rattle.records.specs.declared.Marks.{Marks}
+use Rattle.std.specs.Prelude.{cond, List, [], ◌∷◌, ◌++◌, ℕ, ◌+◌, ◌*◌, ◌/◌, eqb, ltb, length, get_or, take, drop}
 use Rattle.records.specs.declared.Fields.{Fields}
 use Rattle.records.specs.declared.Kind.{Kind}
 use Rattle.records.specs.declared.Kind.TheVariants.{Leaf, Join, Dummy, Output, Waiting}
@@ -29,7 +28,3 @@ fields x = kind_word x.kind ∷ x.a ∷ x.b ∷ x.c ∷ x.maximum ∷ x.height �
 -- the words with eight for record n, where there is a whole record
 unfoldable pub put_record : List ℕ → ℕ → List ℕ → List ℕ
 put_record s n ws = cond (ltb n (length s / 8)) (take (8 * n) s ++ (ws ++ drop (8 * n + 8) s)) s
-
--- the marks with the full mark set
-unfoldable pub full_of : Marks → Marks
-full_of m = record { records = m.records; words = m.words; fresh = m.fresh; clauses = m.clauses; full = true }

@@ -6,7 +6,7 @@ ghost use Rattle.std.specs.Prelude.{◌≡◌, ◌≢◌, List, MatchOption, ◌
 ghost use Rattle.rules.specs.Records.{Record, unknown, node_at, left_link, right_link, waits};
 ghost use Rattle.rules.specs.WellFormed.{is_leaf, is_dummy};
 ghost use Rattle.laws.specs.Records.Places.{place};
-ghost use Rattle.records.specs.Words.{kind_word, field_at, held_at, fields, put_record, full_of};
+ghost use Rattle.records.specs.Words.{kind_word, field_at, held_at, fields, put_record};
 ghost use Rattle.records.specs.Readers.{is_join, is_halved, leaf_word, is_output, output_node, output_value, output_number, entry_node, entry_weight};
 ghost use Rattle.records.specs.Carries.{Reads};
 
@@ -94,15 +94,15 @@ pub const INDEX: usize = 7;
 // The last place that a word names.
 pub const MOST_PLACE: usize = u32::MAX as usize;
 
-// What of the lent memory is used, and whether it was too little: records of the store, words of the clause buffer, the
-// next fresh number, clauses in all.
+// What of the lent memory is used: records of the store, words of the clause buffer, the next fresh number, clauses in all.
+// Store, clauses and marks go through every step as three parameters: its promise names the words of each before and after, and
+// a struct of the two slices would be taken apart and lent anew at each call.
 #[derive(Clone, Copy)]
 pub struct Marks {
     pub records: usize,
     pub words: usize,
     pub fresh: u32,
     pub clauses: usize,
-    pub full: bool,
 }
 
 // The words of a record by their places; the last two are 0. What a, b and c hold is said with each kind.
@@ -125,7 +125,9 @@ pub fn capacity(s: &[u32]) -> usize
 
 // The words of a store, of which so many records are used. Its readers take any words and any place. Where there is no such record
 // they answer 0, as the rules' own readers of records do, and no Option: callers compare and add what they get, without a case
-// for another kind.
+// for another kind. There is a reader for each word under the name that the rules give it, also where two differ in a place alone.
+// That the words are records (`Reads`) stands in the promises and is no invariant: steps build a `Store` before it is known
+// whether the room lasted, and a promise holds of every store that the words may be.
 #[derive(Clone, Copy)]
 pub struct Store<'a> {
     pub words: &'a [u32],
@@ -285,11 +287,4 @@ pub fn put_record(s: &mut [u32], n: usize, x: Fields)
         let words = [x.kind as u32, x.a, x.b, x.c, x.maximum, x.height, 0, 0];
         s[at..at + WORDS].copy_from_slice(&words);
     }
-}
-
-// The marks with the full mark set. Constant time.
-pub fn full(m: Marks) -> Marks
-    ensures { result ≡ full_of m }
-{
-    Marks { full: true, ..m }
 }

@@ -1,22 +1,21 @@
 -- A record appended where there is room; one law for each way.
 use mathlib.Core.Path.{◌≡◌, refl, sym, ap, ap₂, ◌∙◌, subst}
-use mathlib.Core.Bool.{Bool, true, false, cond, true≢false}
+use mathlib.Core.Logic.{◌⊎◌, inl, inr}
+use mathlib.Core.Bool.{Bool, true, false, cond}
 use mathlib.Core.List.{List, [], ◌∷◌, ◌++◌}
 use Prim.Native.Nat.{ℕ, suc, ◌+◌, ◌*◌, ◌/◌, ◌≤◌, ◌<◌, max}
 use native.Mathlib.Omega.{arith}
 use lib.ListN.{length, take, length-append}
 use lib.IntN.{ℤ}
-use mir.Val.{bool_byte}
 use Rattle.rules.specs.Records.{Node, Record, node, output, waiting, node_of, node_at, node_image, record_image, literal_word, leaf_node, dummy_node}
 use Rattle.rules.specs.Totalizer.{Arena, counts, joining, add, take_number}
-use Rattle.records.specs.declared.Marks.{Marks}
 use Rattle.records.specs.declared.Fields.{Fields}
 use Rattle.records.specs.declared.Kind.TheVariants.{Leaf, Join, Dummy, Output, Waiting}
-use Rattle.records.specs.Words.{fields, put_record, full_of}
-use Rattle.records.specs.Carries.{St, st, store_of, marks_of, written, size, peak, Fits, Holds, Carries, Steps, Makes, Stores, on_records, with_records, with_record, placed}
+use Rattle.records.specs.Words.{fields, put_record}
+use Rattle.records.specs.Carries.{Held, ended, St, st, store_of, marks_of, written, size, peak, Fits, Holds, Carries, Steps, Makes, Stores, on_records, with_records, with_record, placed}
 use Rattle.records.proofs.Grow.{Grows, grows_trans, peak_append, records_more, record_grows}
 use Rattle.records.proofs.Read.{size_words}
-use Rattle.records.proofs.Step.{full_kept, stop, going, filled, done, carried, held_stores, makes_steps, makes_same, makes_full}
+use Rattle.records.proofs.Step.{stop, going, filled, done, carried, held_stores, makes_steps, makes_same, makes_full}
 use Rattle.records.proofs.Entry.{appended, kept_below}
 use Rattle.records_append.specs.Fresh.{with_numbers}
 
@@ -32,26 +31,21 @@ more r t = (
   peak_append t.records (r ∷ []) ∙ ap (max (peak t.records)) (peak_one r),
 )
 
-module _ (s : List ℕ) (c : List ℤ) (m : Marks) (r : Record) where
-  pub append_stop : (x : ℕ) (z : Marks) → z ≡ full_of m → m.full ≡ true → Makes (st s c m) (st s c z) x (placed r)
+module _ (s : List ℕ) (c : List ℤ) (m : Held) (r : Record) where
+  pub append_stop : (x : ℕ) → m.full ≡ true → Makes (st s c m) (st s c m) x (placed r)
   unfolding placed
-  append_stop x z ez k =
-      subst (λ (y : Marks). Makes (st s c m) (st s c y) x (placed r)) (full_kept m z ez k)
-      (makes_full (st s c m) (st s c m) x (placed r) k (stop (st s c m) (with_record r) (record_grows r) k))
+  append_stop x k = makes_full (st s c m) (st s c m) x (placed r) k (stop (st s c m) (with_record r) (record_grows r) k)
 
   module _ (k : m.full ≡ false) where
-    none : (x : ℕ) (z : Marks) → z ≡ full_of m → ((e : St) (t : Arena) → Carries e (st s c m) t → Fits e (with_record r t) → Holds e (st s c m) t → ⊥) →
-        Makes (st s c m) (st s c z) x (placed r)
-    unfolding placed full_of
-    none x z ez nay =
-        makes_full (st s c m) (st s c z) x (placed r) (ap (λ (y : Marks). y.full) ez)
-        (filled s c m z (with_record r) k ez (λ e t h f hd q. nay e t h q hd))
-
-    pub append_room : (x : ℕ) (z : Marks) → z ≡ full_of m → length s / 8 ≤ m.records → Makes (st s c m) (st s c z) x (placed r)
-    append_room x z ez i = none x z ez (λ e t h q hd. omega (arith, h.same_store, hd.records_is, q.records_fit, (more r t).0))
-
-    pub append_place : (x : ℕ) (z : Marks) → z ≡ full_of m → 4294967295 < m.records → Makes (st s c m) (st s c z) x (placed r)
-    append_place x z ez i = none x z ez (λ e t h q hd. omega (arith, hd.records_is, q.places_fit, (more r t).0))
+    pub append_none : (x : ℕ) → (length s / 8 ≤ m.records) ⊎ (4294967295 < m.records) → Makes (st s c m) (st s c ended) x (placed r)
+    unfolding placed
+    append_none x i =
+        makes_full (st s c m) (st s c ended) x (placed r) refl (filled s c m (with_record r) k (λ e t h f hd q. nay e t h q hd i))
+      where
+        nay : (e : St) (t : Arena) → Carries e (st s c m) t → Fits e (with_record r t) → Holds e (st s c m) t →
+            (length s / 8 ≤ m.records) ⊎ (4294967295 < m.records) → ⊥
+        nay e t h q hd (inl i) = omega (arith, h.same_store, hd.records_is, q.records_fit, (more r t).0)
+        nay e t h q hd (inr i) = omega (arith, hd.records_is, q.places_fit, (more r t).0)
 
     pub append_done : (s' : List ℕ) (x : Fields) → record_image r ≡ fields x → m.records < length s / 8 → m.records ≤ 4294967295 →
         x.maximum < 4294967296 → x.height < 4294967296 → s' ≡ put_record s m.records (fields x) →
@@ -92,11 +86,6 @@ module _ (s : List ℕ) (c : List ℤ) (m : Marks) (r : Record) where
             λ q. here,
           );
     }
-
--- a halving as a word
-pub halving_is : (half : Bool) → bool_byte half ≡ cond half 1 0
-halving_is true = refl
-halving_is false = refl
 
 -- the words of a join
 join_image : (rs : List Record) (half : Bool) (l r top high b : ℕ) → top ≡ (joining rs half l r).maximum → high ≡ (joining rs half l r).height → b ≡ cond half 1 0 →
@@ -148,63 +137,60 @@ pub join_grows : (half : Bool) (l r : ℕ) (t : Arena) → Grows t (on_records (
 unfolding on_records add
 join_grows half l r t = records_more t (node (joining t.records half l r) ∷ [])
 
-module _ (s : List ℕ) (c : List ℤ) (m : Marks) (half : Bool) (l r : ℕ) where
-  pub join_stop : (x : ℕ) (z : Marks) → z ≡ full_of m → m.full ≡ true → Makes (st s c m) (st s c z) x (on_records (λ rs. add rs (joining rs half l r)))
-  join_stop x z ez k =
-      subst (λ (y : Marks). Makes (st s c m) (st s c y) x (on_records (λ rs. add rs (joining rs half l r)))) (full_kept m z ez k)
-      (makes_full (st s c m) (st s c m) x (on_records (λ rs. add rs (joining rs half l r))) k
-      (stop (st s c m) (λ t. (on_records (λ rs. add rs (joining rs half l r)) t).0) (join_grows half l r) k))
+module _ (s : List ℕ) (c : List ℤ) (m : Held) (half : Bool) (l r : ℕ) where
+  pub join_stop : (x : ℕ) → m.full ≡ true → Makes (st s c m) (st s c m) x (on_records (λ rs. add rs (joining rs half l r)))
+  join_stop x k =
+      makes_full (st s c m) (st s c m) x (on_records (λ rs. add rs (joining rs half l r))) k
+      (stop (st s c m) (λ t. (on_records (λ rs. add rs (joining rs half l r)) t).0) (join_grows half l r) k)
 
-  -- the maxima and heights that the rule of joining reads
-  module _ (k : m.full ≡ false) (lm rm rc lh rh top high : ℕ)
-      (elm : (rs : List Record) → Stores s m.records rs → lm ≡ (node_at rs l).maximum)
-      (erm : (rs : List Record) → Stores s m.records rs → rm ≡ (node_at rs r).maximum) (erc : rc ≡ counts half rm) (etop : top ≡ lm + rc)
-      (elh : (rs : List Record) → Stores s m.records rs → lh ≡ (node_at rs l).height)
-      (erh : (rs : List Record) → Stores s m.records rs → rh ≡ (node_at rs r).height) (ehigh : high ≡ suc (max lh rh)) where
-    module _ (rs : List Record) (h : Stores s m.records rs) where
-      top_is : top ≡ (joining rs half l r).maximum
+  module _ (k : m.full ≡ false) where
+    -- a join whose maximum or height does not fit a word
+    over : (x : ℕ) → ((rs : List Record) → Stores s m.records rs → 4294967295 < size (node (joining rs half l r))) →
+        Makes (st s c m) (st s c ended) x (on_records (λ rs. add rs (joining rs half l r)))
+    unfolding on_records add with_record
+    over x i =
+        makes_full (st s c m) (st s c ended) x (on_records (λ rs. add rs (joining rs half l r))) refl
+        (filled s c m (λ t. (on_records (λ rs. add rs (joining rs half l r)) t).0) k
+        (λ e t h f hd q. omega (arith, (more (node (joining t.records half l r)) t).1, i t.records (held_stores e (st s c m) t hd), q.sizes_fit)))
+
+    -- the maxima that the rule of joining reads
+    module _ (lm rm rc top : ℕ) (elm : (rs : List Record) → Stores s m.records rs → lm ≡ (node_at rs l).maximum)
+        (erm : (rs : List Record) → Stores s m.records rs → rm ≡ (node_at rs r).maximum) (erc : rc ≡ counts half rm) (etop : top ≡ lm + rc) where
+      top_is : (rs : List Record) → Stores s m.records rs → top ≡ (joining rs half l r).maximum
       unfolding joining
-      top_is =
-          etop ∙ ap₂ ◌+◌ (elm rs h) (erc ∙ ap (counts half) (erm rs h))
+      top_is rs h = etop ∙ ap₂ ◌+◌ (elm rs h) (erc ∙ ap (counts half) (erm rs h))
 
-      high_is : high ≡ (joining rs half l r).height
+      pub join_over_top : (x : ℕ) → 4294967295 < top → Makes (st s c m) (st s c ended) x (on_records (λ rs. add rs (joining rs half l r)))
+      unfolding size node_of
+      join_over_top x i = over x (λ rs h. omega (arith, top_is rs h))
+
+    -- and the heights
+    module _ (lh rh high : ℕ) (elh : (rs : List Record) → Stores s m.records rs → lh ≡ (node_at rs l).height)
+        (erh : (rs : List Record) → Stores s m.records rs → rh ≡ (node_at rs r).height) (ehigh : high ≡ suc (max lh rh)) where
+      high_is : (rs : List Record) → Stores s m.records rs → high ≡ (joining rs half l r).height
       unfolding joining
-      high_is =
-          ehigh ∙ ap₂ (λ (x y : ℕ). suc (max x y)) (elh rs h) (erh rs h)
+      high_is rs h = ehigh ∙ ap₂ (λ (x y : ℕ). suc (max x y)) (elh rs h) (erh rs h)
 
-    over_size : (t : Arena) → Stores s m.records t.records → 4294967295 < max top high → peak (with_record (node (joining t.records half l r)) t).records < 4294967296 → ⊥
-    unfolding size node_of
-    over_size t h i q =
-        omega (arith, (more (node (joining t.records half l r)) t).1, top_is t.records h, high_is t.records h)
+      pub join_over_high : (x : ℕ) → 4294967295 < high → Makes (st s c m) (st s c ended) x (on_records (λ rs. add rs (joining rs half l r)))
+      unfolding size node_of
+      join_over_high x i = over x (λ rs h. omega (arith, high_is rs h))
 
-    join_over : (x : ℕ) (z : Marks) → z ≡ full_of m → 4294967295 < max top high → Makes (st s c m) (st s c z) x (on_records (λ rs. add rs (joining rs half l r)))
-    unfolding full_of on_records add with_record
-    join_over x z ez i =
-        makes_full (st s c m) (st s c z) x (on_records (λ rs. add rs (joining rs half l r))) (ap (λ (y : Marks). y.full) ez)
-        (filled s c m z (λ t. (on_records (λ rs. add rs (joining rs half l r)) t).0) k ez
-        (λ e t h f hd q. over_size t (held_stores e (st s c m) t hd) i q.sizes_fit))
-
-    pub join_over_top : (x : ℕ) (z : Marks) → z ≡ full_of m → 4294967295 < top → Makes (st s c m) (st s c z) x (on_records (λ rs. add rs (joining rs half l r)))
-    join_over_top x z ez i = join_over x z ez (omega arith)
-
-    pub join_over_high : (x : ℕ) (z : Marks) → z ≡ full_of m → 4294967295 < high → Makes (st s c m) (st s c z) x (on_records (λ rs. add rs (joining rs half l r)))
-    join_over_high x z ez i = join_over x z ez (omega arith)
-
-    pub join_done : (τ : St) (y b : ℕ) → b ≡ cond half 1 0 →
+    pub join_done : (lm rm rc lh rh top high : ℕ)
+        (elm : (rs : List Record) → Stores s m.records rs → lm ≡ (node_at rs l).maximum)
+        (erm : (rs : List Record) → Stores s m.records rs → rm ≡ (node_at rs r).maximum) (erc : rc ≡ counts half rm) (etop : top ≡ lm + rc)
+        (elh : (rs : List Record) → Stores s m.records rs → lh ≡ (node_at rs l).height)
+        (erh : (rs : List Record) → Stores s m.records rs → rh ≡ (node_at rs r).height) (ehigh : high ≡ suc (max lh rh))
+        (τ : St) (y b : ℕ) → b ≡ cond half 1 0 →
         Appends (st s c m) τ y (record { kind = Join; a = l; b = r; c = b; maximum = top; height = high }) →
         Makes (st s c m) τ y (on_records (λ rs. add rs (joining rs half l r)))
     unfolding joined
-    join_done τ y b eb p = record {
+    join_done lm rm rc lh rh top high elm erm erc etop elh erh ehigh τ y b eb p = record {
       go = λ e t h.
           let hd : Holds e (st s c m) t = (going e (st s c m) t h k).1 in
-          let at : Stores s m.records t.records = held_stores e (st s c m) t hd in
+          let read : Stores s m.records t.records = held_stores e (st s c m) t hd in
           subst (λ (z : Arena × ℕ). Carries e τ z.0 × (Fits e z.0 → y ≡ z.1)) (joined_is half l r t)
-          ((p (node (joining t.records half l r)) (image t.records at b eb)).go e t h);
+          ((p (node (joining t.records half l r)) (join_image t.records half l r top high b (top_is lm rm rc top elm erm erc etop t.records read) (high_is lh rh high elh erh ehigh t.records read) eb)).go e t h);
     }
-      where
-        image : (rs : List Record) → Stores s m.records rs → (b : ℕ) → b ≡ cond half 1 0 →
-            record_image (node (joining rs half l r)) ≡ 2 ∷ l ∷ r ∷ b ∷ top ∷ high ∷ 0 ∷ 0 ∷ []
-        image rs h b eb = join_image rs half l r top high b (top_is rs h) (high_is rs h) eb
 
 -- An output -----------------------------------------------------------------------------------------------------------------
 
@@ -212,16 +198,14 @@ pub fresh_grows : (k : ℕ) (t : Arena) → Grows t (with_numbers k t)
 unfolding with_numbers
 fresh_grows k t = record { records_grow = omega arith; words_grow = omega arith; fresh_grow = omega arith; sizes_grow = omega arith }
 
-module _ (s : List ℕ) (c : List ℤ) (m : Marks) (many : ℕ) where
-  pub fresh_stop : (z : Marks) → z ≡ full_of m → m.full ≡ true → Steps (st s c m) (st s c z) (with_numbers many)
-  fresh_stop z ez k =
-      subst (λ (y : Marks). Steps (st s c m) (st s c y) (with_numbers many)) (full_kept m z ez k)
-      (stop (st s c m) (with_numbers many) (fresh_grows many) k)
+module _ (s : List ℕ) (c : List ℤ) (m : Held) (many : ℕ) where
+  pub fresh_stop : m.full ≡ true → Steps (st s c m) (st s c m) (with_numbers many)
+  fresh_stop k = stop (st s c m) (with_numbers many) (fresh_grows many) k
 
   module _ (k : m.full ≡ false) where
-    pub fresh_end : (z : Marks) → z ≡ full_of m → 1000000001 < m.fresh + many → Steps (st s c m) (st s c z) (with_numbers many)
+    pub fresh_end : 1000000001 < m.fresh + many → Steps (st s c m) (st s c ended) (with_numbers many)
     unfolding with_numbers
-    fresh_end z ez i = filled s c m z (with_numbers many) k ez (λ e t h f hd q. omega (arith, hd.fresh_is, q.fresh_fit))
+    fresh_end i = filled s c m (with_numbers many) k (λ e t h f hd q. omega (arith, hd.fresh_is, q.fresh_fit))
 
     pub fresh_done : m.fresh + many ≤ 1000000001 →
         Steps (st s c m) (st s c (record { records = m.records; words = m.words; fresh = m.fresh + many; clauses = m.clauses; full = m.full })) (with_numbers many)
@@ -245,19 +229,6 @@ module _ (s : List ℕ) (c : List ℤ) (m : Marks) (many : ℕ) where
       h.kept_store,
     ))
 
-  -- past the last number, full before or not
-  pub fresh_over : (z : Marks) → z ≡ full_of m → 1000000001 < m.fresh + many → Steps (st s c m) (st s c z) (with_numbers many)
-  fresh_over z ez i = go m.full refl
-    where
-      go : (b : Bool) → m.full ≡ b → Steps (st s c m) (st s c z) (with_numbers many)
-      go true k = fresh_stop z ez k
-      go false k = fresh_end k z ez i
-
--- marks with the full mark set are full
-pub full_not : (m z : Marks) → z ≡ full_of m → z.full ≡ false → ⊥
-unfolding full_of
-full_not m z e p = true≢false (sym (ap (λ (x : Marks). x.full) e) ∙ p)
-
 output_of : ℕ → ℕ → ℕ → Record
 output_of n v w = output (record { node = n; value = v; number = w })
 
@@ -273,16 +244,14 @@ number_grows n v t =
     (grows_trans t (with_record (output_of n v t.fresh) t) (with_numbers 1 (with_record (output_of n v t.fresh) t))
     (record_grows (output_of n v t.fresh) t) (fresh_grows 1 (with_record (output_of n v t.fresh) t)))
 
-module _ (s : List ℕ) (c : List ℤ) (m : Marks) (n v : ℕ) where
-  pub output_stop : (z : Marks) → z ≡ full_of m → m.full ≡ true → Steps (st s c m) (st s c z) (take_number n v)
-  output_stop z ez k =
-      subst (λ (y : Marks). Steps (st s c m) (st s c y) (take_number n v)) (full_kept m z ez k)
-      (stop (st s c m) (take_number n v) (number_grows n v) k)
+module _ (s : List ℕ) (c : List ℤ) (m : Held) (n v : ℕ) where
+  pub output_stop : m.full ≡ true → Steps (st s c m) (st s c m) (take_number n v)
+  output_stop k = stop (st s c m) (take_number n v) (number_grows n v) k
 
   module _ (k : m.full ≡ false) where
-    pub output_end : (z : Marks) → z ≡ full_of m → 1000000000 < m.fresh → Steps (st s c m) (st s c z) (take_number n v)
+    pub output_end : 1000000000 < m.fresh → Steps (st s c m) (st s c ended) (take_number n v)
     unfolding take_number
-    output_end z ez i = filled s c m z (take_number n v) k ez (λ e t h f hd q. omega (arith, hd.fresh_is, q.fresh_fit))
+    output_end i = filled s c m (take_number n v) k (λ e t h f hd q. omega (arith, hd.fresh_is, q.fresh_fit))
 
     pub output_done : (τ υ : St) (y : ℕ) → Appends (st s c m) τ y (record { kind = Output; a = n; b = v; c = 2 * m.fresh; maximum = 0; height = 0 }) →
         Steps τ υ (with_numbers 1) → Steps (st s c m) υ (take_number n v)

@@ -1,2 +1,3 @@
 -- What the contracts of appending cite beside the relation.
 pub mod Fresh
+pub mod Made

@@ -1,10 +1,10 @@
 -- A clause written where the buffer's used words end.
-use mathlib.Core.Path.{◌≡◌, sym, ap, ap₂, ◌∙◌, subst}
-use mathlib.Core.Bool.{Bool, true, false, cond}
+use Rattle.std.specs.Prelude.{Option, Some, None}
+use mathlib.Core.Path.{◌≡◌, sym, ap, ap₂, ◌∙◌}
+use mathlib.Core.Bool.{true, false}
 use mathlib.Core.List.{List, [], ◌∷◌, ◌++◌, append_assoc, append-nil}
 use Prim.Native.Nat.{ℕ, ◌+◌, ◌-◌, ◌≤◌, ◌<◌, ◌^◌}
 use native.Mathlib.Omega.{arith}
-use lib.Dec.{eqb}
 use lib.ListN.{length, take, length-append}
 use lib.IntN.{ℤ, pos}
 use borrow.Author.Tests.{lt-ltb}
@@ -12,15 +12,13 @@ use Rattle.rules.specs.Records.{word_literal}
 use Rattle.rules.specs.Totalizer.{Arena}
 use Rattle.rules.specs.Build.{clause_words}
 use Rattle.numbers.specs.Signed.{put_signed}
-use Rattle.records.specs.declared.Marks.{Marks}
 use Rattle.records_clauses.specs.Clauses.{side_of, Buf, buf, push, push_side, push_clause, with_clause, clause_of}
-use Rattle.records.specs.Words.{full_of}
-use Rattle.records.specs.Carries.{St, st, buffer_of, marks_of, written, Steps}
+use Rattle.records.specs.Carries.{Held, ended, St, st, buffer_of, marks_of, written, Steps}
 use Rattle.records_words.specs.Words.{laid}
 use Rattle.records_words.proofs.Lay.{laid_length, laid_sets}
 use Rattle.records.proofs.Image.{words_append}
 use Rattle.records.proofs.Grow.{Grows}
-use Rattle.records.proofs.Step.{full_kept, stop, filled, done}
+use Rattle.records.proofs.Step.{stop, filled, done}
 
 -- a clause more needs more
 pub clause_grows : (c : List ℤ) (t : Arena) → Grows t (with_clause c t)
@@ -42,22 +40,18 @@ push_laid xs c w i =
     rw (lt-ltb (length xs) (length (laid xs c)) (omega (arith, laid_length xs c (omega arith))))
     (ap₂ buf (laid_sets xs (word_literal w ∷ []) c (omega arith)) (sym (length-append xs (word_literal w ∷ []))))
 
-side_laid : (xs c : List ℤ) (w : ℕ) → length xs + length (side_of w) ≤ length c → push_side (end xs c) w ≡ end (xs ++ side_of w) c
+side_laid : (xs c : List ℤ) (side : Option ℕ) → length xs + length (side_of side) ≤ length c → push_side (end xs c) side ≡ end (xs ++ side_of side) c
 unfolding push_side side_of
-side_laid xs c w = go (eqb w 1)
-  where
-    go : (b : Bool) → length xs + length (cond b [] (word_literal w ∷ [])) ≤ length c →
-        cond b (end xs c) (push (end xs c) w) ≡ end (xs ++ cond b [] (word_literal w ∷ [])) c
-    go true i = ap (λ z. end z c) (sym (append-nil xs))
-    go false i = push_laid xs c w (omega arith)
+side_laid xs c (Some w) i = push_laid xs c w (omega arith)
+side_laid xs c None i = ap (λ z. end z c) (sym (append-nil xs))
 
-clause_width : (p q o : ℕ) → length (clause_words (clause_of p q o ∷ [])) ≡ length (side_of p) + length (side_of q) + 2
+clause_width : (p q : Option ℕ) (o : ℕ) → length (clause_words (clause_of p q o ∷ [])) ≡ length (side_of p) + length (side_of q) + 2
 unfolding clause_words clause_of
 clause_width p q o =
     let tail : List ℤ = side_of q ++ (word_literal o ∷ []) in
     omega (arith, length-append (side_of p ++ tail) (pos 0 ∷ []), length-append (side_of p) tail, length-append (side_of q) (word_literal o ∷ []))
 
-clause_laid : (xs c : List ℤ) (p q o : ℕ) → length xs + (length (side_of p) + length (side_of q) + 2) ≤ length c →
+clause_laid : (xs c : List ℤ) (p q : Option ℕ) (o : ℕ) → length xs + (length (side_of p) + length (side_of q) + 2) ≤ length c →
     push_clause (end xs c) p q o ≡ end (xs ++ clause_words (clause_of p q o ∷ [])) c
 unfolding push_clause clause_words clause_of word_literal
 clause_laid xs c p q o i =
@@ -88,11 +82,9 @@ buf_words (buf c i) = c
 buf_mark : Buf → ℕ
 buf_mark (buf c i) = i
 
-module _ (s : List ℕ) (c : List ℤ) (m : Marks) (p q o : ℕ) where
-  pub clause_stop : (z : Marks) → z ≡ full_of m → m.full ≡ true → Steps (st s c m) (st s c z) (with_clause (clause_of p q o))
-  clause_stop z ez k =
-      subst (λ (y : Marks). Steps (st s c m) (st s c y) (with_clause (clause_of p q o))) (full_kept m z ez k)
-      (stop (st s c m) (with_clause (clause_of p q o)) (clause_grows (clause_of p q o)) k)
+module _ (s : List ℕ) (c : List ℤ) (m : Held) (p q : Option ℕ) (o : ℕ) where
+  pub clause_stop : m.full ≡ true → Steps (st s c m) (st s c m) (with_clause (clause_of p q o))
+  clause_stop k = stop (st s c m) (with_clause (clause_of p q o)) (clause_grows (clause_of p q o)) k
 
   module _ (k : m.full ≡ false) where
     -- the words that the clause adds
@@ -102,9 +94,9 @@ module _ (s : List ℕ) (c : List ℤ) (m : Marks) (p q o : ℕ) where
         (length-append (written e t) (clause_words (clause_of p q o ∷ [])) ∙ ap (λ (n : ℕ). length (written e t) + n) (clause_width p q o))
 
     -- the clause is longer than what is left
-    pub clause_long : (z : Marks) (x y : ℕ) → z ≡ full_of m → x ≡ length (side_of p) → y ≡ length (side_of q) →
-        length c - m.words < x + y + 2 → Steps (st s c m) (st s c z) (with_clause (clause_of p q o))
-    clause_long z x y ez ex ey i = filled s c m z (with_clause (clause_of p q o)) k ez
+    pub clause_long : (x y : ℕ) → x ≡ length (side_of p) → y ≡ length (side_of q) →
+        length c - m.words < x + y + 2 → Steps (st s c m) (st s c ended) (with_clause (clause_of p q o))
+    clause_long x y ex ey i = filled s c m (with_clause (clause_of p q o)) k
         (λ e t h f hd fit. omega (arith, h.same_buffer, added e t, hd.words_is, fit.words_fit))
 
     pub clause_done : (d : List ℤ) (j x y z : ℕ) → y ≡ length (side_of p) → z ≡ length (side_of q) → y + z + 2 ≤ length c - m.words →

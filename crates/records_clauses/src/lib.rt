@@ -1,20 +1,11 @@
-// Clauses in lent words: a clause of two sides and an output, closed by 0, where there is room; else the marks come back with the
-// full mark set.
+// Clauses in lent words: a clause of two sides and an output, closed by 0, where there is room; else none.
 #![tactic(auto)]
 
-ghost use Rattle.std.specs.Prelude.{◌≡◌, List, ℕ, length};
-ghost use Rattle.records.specs.Carries.{st, Steps};
-ghost use Rattle.records_clauses.specs.Clauses.{side_of, buf, push, push_side, push_clause, with_clause, clause_of};
+ghost use Rattle.std.specs.Prelude.{◌≡◌, List, ℕ};
+ghost use Rattle.records.specs.Carries.{st, at, after, Steps};
+ghost use Rattle.records_clauses.specs.Clauses.{buf, push, push_side, push_clause, with_clause, clause_of};
 
 use records::Marks;
-
-// The words that a side takes: none where it is 1, which is no literal's word. A side is one word, as it is found, and no Option,
-// which would be taken apart to this same test.
-fn width(w: u32) -> usize
-    ensures { result ≡ length (side_of w) }
-{
-    usize::from(w != 1)
-}
 
 // A literal at the end of the words.
 fn push(c: &mut [i32], i: usize, w: u32) -> usize
@@ -28,14 +19,17 @@ fn push(c: &mut [i32], i: usize, w: u32) -> usize
     }
 }
 
-// A side at the end of the words, as many as its width.
-fn push_side(c: &mut [i32], i: usize, w: u32) -> usize
-    ensures { buf c.new result ≡ push_side (buf c.old i) w }
+// A side at the end of the words, if there is one.
+fn push_side(c: &mut [i32], i: usize, side: Option<u32>) -> usize
+    ensures { buf c.new result ≡ push_side (buf c.old i) side }
 {
-    if w == 1 { i } else { push(c, i, w) }
+    match side {
+        Some(w) => push(c, i, w),
+        None => i,
+    }
 }
 
-fn push_clause(c: &mut [i32], i: usize, p: u32, q: u32, o: u32) -> usize
+fn push_clause(c: &mut [i32], i: usize, p: Option<u32>, q: Option<u32>, o: u32) -> usize
     ensures { buf c.new result ≡ push_clause (buf c.old i) p q o }
 {
     let j = push_side(c, i, p);
@@ -44,17 +38,17 @@ fn push_clause(c: &mut [i32], i: usize, p: u32, q: u32, o: u32) -> usize
     push(c, l, 0)
 }
 
-// A clause of two sides and an output, closed by 0; a side that is 1 is left out. Constant time.
-pub fn put_clause(c: &mut [i32], m: Marks, p: u32, q: u32, o: u32) -> Marks
-    ensures { (s : List ℕ) → Steps (st s c.old m) (st s c.new result) (with_clause (clause_of p q o)) }
+// A clause of two sides and an output, closed by 0; none where it does not fit. Constant time.
+pub fn put_clause(c: &mut [i32], m: Marks, p: Option<u32>, q: Option<u32>, o: u32) -> Option<Marks>
+    ensures { (s : List ℕ) → Steps (st s c.old (at m)) (st s c.new (after result)) (with_clause (clause_of p q o)) }
 {
     let room = c.len().saturating_sub(m.words);
-    if m.full || room < width(p) + width(q) + 2 {
-        return records::full(m);
+    if room < usize::from(p.is_some()) + usize::from(q.is_some()) + 2 {
+        return None;
     }
-    Marks {
+    Some(Marks {
         words: push_clause(c, m.words, p, q, o),
         clauses: m.clauses.saturating_add(1),
         ..m
-    }
+    })
 }

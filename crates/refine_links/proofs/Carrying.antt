@@ -8,8 +8,7 @@ use lib.IntN.{ℤ}
 use Rattle.rules.specs.Totalizer.{Arena}
 use Rattle.rules.specs.Refinement.{relink}
 use Rattle.laws.specs.Lists.Facts.{All, occurs}
-use Rattle.records.specs.declared.Marks.{Marks}
-use Rattle.records.specs.Carries.{St, st, store_of, marks_of, Fits, Holds, Carries, with_records}
+use Rattle.records.specs.Carries.{Held, St, st, store_of, marks_of, Fits, Holds, Carries, with_records}
 use Rattle.records.proofs.Step.{going}
 use Rattle.records.proofs.Entry.{rebase}
 use Rattle.refine_links.specs.Linked.{Lies, Relinks}
@@ -19,7 +18,7 @@ use Rattle.refine_links.proofs.Renewing.{relink_length}
 pub held_lies : (e σ : St) (t : Arena) → Fits e t → Holds e σ t → Lies (store_of σ) (marks_of σ).records (store_of e) t.records
 held_lies e σ t f h = record { store_is = h.store_is; count_is = h.records_is; room = f.records_fit; small = f.sizes_fit }
 
-module _ (s₀ : List ℕ) (c₀ : List ℤ) (m₀ : Marks) (s : List ℕ) (c : List ℤ) (m : Marks) (t : Arena) (h : Carries (st s₀ c₀ m₀) (st s c m) t)
+module _ (s₀ : List ℕ) (c₀ : List ℤ) (m₀ : Held) (s : List ℕ) (c : List ℤ) (m : Held) (t : Arena) (h : Carries (st s₀ c₀ m₀) (st s c m) t)
     (k : m.full ≡ false) (s' : List ℕ) (bs : List ℕ) (below : ℕ) (inside : All (λ b. b < length t.records) bs) where
   lies : Lies s m.records s₀ t.records
   lies =

@@ -1,5 +1,6 @@
 -- Any two results that the promise of a public function allows are equal, where records lie in the words; the words of `relink`, where the
 -- sizes fit.
+use Rattle.std.specs.Prelude.{Option, Some, None, is_some, ⊤}
 use mathlib.Core.Path.{◌≡◌, refl, sym, ap₂, ◌∙◌}
 use mathlib.Core.Bool.{Bool, true, false, true≢false, false≢true}
 use mathlib.Core.List.{List, ◌++◌}
@@ -46,12 +47,19 @@ relinks_same s s' s'' records bs below false true p q s₀ rs h a once =
     absurd (true≢false (sym (p.fit s₀ rs h a once (q.done s₀ rs h a refl).small)))
 relinks_same s s' s'' records bs below false false p q s₀ rs h a once = (refl, λ e. absurd (false≢true e))
 
+done_same : (x y : Option ⊤) → is_some x ≡ is_some y → x ≡ y
+done_same (Some x) (Some y) e = refl
+done_same None None e = refl
+done_same (Some x) None e = absurd (true≢false e)
+done_same None (Some y) e = absurd (false≢true e)
+
 pub relink_determined : (κs : Lfts 2) (a : Dens κs relink-kinds.ps) (x y : (res_t relink-kinds.r κs).Denot) (e f : AtExit (ended_of 2 relink-kinds.ps relink-kinds.r) κs) →
     relink.Post κs a x e → relink.Post κs a y f → (s₀ : List ℕ) (rs : List Record) → Lies a.0.now a.1.0 s₀ rs →
     All (λ b. b < length rs) a.1.1.0.now → ((n : ℕ) → occurs n a.1.1.0.now ≤ 1) →
-    (x ≡ y) × (x ≡ true → e.0.now ≡ f.0.now)
+    (x ≡ y) × (is_some x ≡ true → e.0.now ≡ f.0.now)
 relink_determined κs a x y e f p q s₀ rs h in_rs once =
-    relinks_same a.0.now e.0.now f.0.now a.1.0 a.1.1.0.now a.1.1.1.0 x y p q s₀ rs h in_rs once
+    let same = relinks_same a.0.now e.0.now f.0.now a.1.0 a.1.1.0.now a.1.1.1.0 (is_some x) (is_some y) p q s₀ rs h in_rs once in
+    (done_same x y same.0, same.1)
 
 halves_same : (xs ys : List ℕ) (n : ℕ) → take n xs ≡ take n ys → drop n xs ≡ drop n ys → xs ≡ ys
 halves_same xs ys n e f = sym (take-append-drop n xs) ∙ (ap₂ (λ (s t : List ℕ). s ++ t) e f ∙ take-append-drop n ys)

@@ -1,7 +1,7 @@
 // Old buckets brought up to date in place: each linked, halved, to the one below, its maximum and height by rule.
 #![tactic(auto)]
 
-ghost use Rattle.std.specs.Prelude.{◌≡◌, List, map, ◌-◌, ◌≤◌, length, take, drop, replicate};
+ghost use Rattle.std.specs.Prelude.{◌≡◌, List, is_some, map, ◌-◌, ◌≤◌, length, take, drop, replicate};
 ghost use Rattle.rules.specs.Records.{Record};
 ghost use Rattle.rules.specs.Refinement.{former_half};
 ghost use Rattle.records.specs.Carries.{Reads};
@@ -53,10 +53,10 @@ fn put_bucket(store: &mut [u32], n: usize, b: Bucket)
     );
 }
 
-// Bucket b linked, halved, to the one below; false, and nothing written, where its maximum or height does not fit a word.
+// Bucket b linked, halved, to the one below; none, and nothing written, where its maximum or height does not fit a word.
 // Constant time.
-fn link(store: &mut [u32], records: usize, b: u32, below: u32) -> bool
-    ensures { Links store.old store.new records b below result }
+fn link(store: &mut [u32], records: usize, b: u32, below: u32) -> Option<()>
+    ensures { Links store.old store.new records b below (is_some result) }
 {
     let old = Store {
         words: store,
@@ -64,37 +64,29 @@ fn link(store: &mut [u32], records: usize, b: u32, below: u32) -> bool
     };
     let left = old.left(b);
     let half = records_append::counted(true, old.maximum(below));
-    let maximum = records_append::sum(old.maximum(left), half);
-    let height = records_append::above(old.height(left), old.height(below));
-    let Ok(maximum) = u32::try_from(maximum) else {
-        return false;
-    };
-    let Ok(height) = u32::try_from(height) else {
-        return false;
-    };
+    let maximum = old.maximum(left).checked_add(half);
+    let height = old.height(left).max(old.height(below)).checked_add(1);
     let renewed = Bucket {
         left,
         right: old.right(b),
-        maximum,
-        height,
+        maximum: maximum?,
+        height: height?,
     };
     put_bucket(store, b as usize, patched(renewed, below));
-    true
+    Some(())
 }
 
-// The buckets from the last to the first, each linked to the one below it, the last to `below`; false, and stopped, where a
+// The buckets from the last to the first, each linked to the one below it, the last to `below`; none, and stopped, where a
 // maximum or height does not fit a word. A turn a bucket, at most 20.
-pub fn relink(store: &mut [u32], records: usize, buckets: &[u32], below: u32) -> bool
-    ensures { Relinks store.old store.new records buckets.now below result }
+pub fn relink(store: &mut [u32], records: usize, buckets: &[u32], below: u32) -> Option<()>
+    ensures { Relinks store.old store.new records buckets.now below (is_some result) }
 {
     let mut next = below;
     for &b in buckets.iter().rev() {
-        if !link(store, records, b, next) {
-            return false;
-        }
+        link(store, records, b, next)?;
         next = b;
     }
-    true
+    Some(())
 }
 
 // Half the maximum of the right link of bucket b. Constant time.

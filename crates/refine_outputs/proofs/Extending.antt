@@ -19,12 +19,11 @@ use Rattle.rules.specs.Refinement.{former_half, extend, extend_bucket}
 use Rattle.laws.specs.Totalizer.Defines.{extend_keeps}
 use Rattle.laws.specs.Lists.Facts.{map_append}
 use Rattle.laws.specs.Records.Places.{outputs_append}
-use Rattle.records.specs.declared.Marks.{Marks}
 use Rattle.records.specs.Readers.{is_output, output_node, output_value, output_number}
-use Rattle.records.specs.Carries.{St, st, marks_of, Carries, Steps, Stores}
+use Rattle.records.specs.Carries.{Held, St, st, marks_of, Carries, Steps, Stores}
 use Rattle.records.proofs.Grow.{Grows}
 use Rattle.records.proofs.Read.{output_of}
-use Rattle.records.proofs.Step.{steps_none, stop, held}
+use Rattle.records.proofs.Step.{full_more, steps_none, held}
 use Rattle.totalizer_define.proofs.Growth.{turns_grow, extend_grows}
 use Rattle.refine_outputs.specs.Old.{extend_each, extend_at}
 
@@ -72,10 +71,6 @@ module _ (old : ℕ) (rs : List Record) where
 
 -- One record ------------------------------------------------------------------------------------------------------------------------
 
-pub at_stop : (σ : St) (n most i : ℕ) → (marks_of σ).full ≡ true → Steps σ σ (extend_at n most i)
-unfolding extend_at
-at_stop σ n most i k = stop σ (extend_at n most i) (λ t. each_grows n most (get_or t.records i unknown ∷ []) t) k
-
 -- a record that is no output
 no_output : (r : Record) → is_output r ≡ false → outputs (r ∷ []) ≡ []
 unfolding outputs is_output
@@ -100,7 +95,7 @@ output_one : (r : Record) (o : Output) → r ≡ output o → outputs (r ∷ [])
 unfolding outputs
 output_one r o e = rw e refl
 
-module _ (s : List ℕ) (c : List ℤ) (m : Marks) (n most i : ℕ) (b : Bool) (going : m.full ≡ false)
+module _ (s : List ℕ) (c : List ℤ) (m : Held) (n most i : ℕ) (b : Bool) (going : m.full ≡ false)
     (eb : (rs : List Record) → Stores s m.records rs → b ≡ is_output (get_or rs i unknown)) where
   pub at_none : b ≡ false → Steps (st s c m) (st s c m) (extend_at n most i)
   unfolding extend_at
@@ -199,6 +194,14 @@ going_end σ₀ σ old n most i high g e t h k =
     let none : drop i rs ≡ [] = drop_of_length-le rs {i = i} (omega (arith, length-take-le old t.records k)) in
     subst (Carries e σ) (ap (λ (z : List Record). extend_each n most z x.0) (sym none) ∙ x.3) x.1
 
+-- the room ended on the way
+pub going_full : (σ₀ σ : St) (old n most i : ℕ) → (marks_of σ).full ≡ true → Going σ₀ σ old n most i →
+    (e : St) (t : Arena) → Carries e σ₀ t → old ≤ length t.records → Carries e σ (extend_each n most (take old t.records) t)
+going_full σ₀ σ old n most i k g e t h low =
+    let x = g.at e t h low in
+    let rs : List Record = drop i (take old t.records) in
+    subst (Carries e σ) x.3 (full_more e σ x.0 (extend_each n most rs x.0) x.1 k (each_grows n most rs x.0))
+
 -- The buckets in turn -----------------------------------------------------------------------------------------------------------------
 
 -- a bucket whose old outputs are those of the records before
@@ -243,9 +246,6 @@ pub record Passing (σ₀ σ : St) (old : ℕ) (xs ys : List ℕ) (i : ℕ) : Ty
       (u : Arena) × Carries e σ u × Begins old (take old t.records) u ×
       (in_turn (extend_bucket before) u (drop i (reverse xs)) ≡ in_turn (extend_bucket before) t (reverse xs))
 
-pub passing_start : (σ : St) (old : ℕ) (xs ys : List ℕ) → Passing σ σ old xs ys 0
-passing_start σ old xs ys = record { at = λ e t before h i same halves. (t, h, record { first = refl; enough = i }, refl) }
-
 -- what `extend_bucket` promises
 abbrev pub Extends : St → St → ℕ → ℕ → ℕ → Type 0
 Extends σ τ old n most = (e : St) (t : Arena) → Carries e σ t → old ≤ length t.records → Carries e τ (extend_each n most (take old t.records) t)
@@ -280,3 +280,12 @@ passing_end σ₀ σ old xs ys i all g e t before h k same halves =
     let x = g.at e t before h k same halves in
     let none : drop i (reverse xs) ≡ [] = drop_of_length-le (reverse xs) {i = i} (omega (arith, as_many (former_half before) xs ys halves)) in
     subst (Carries e σ) (ap (in_turn (extend_bucket before) x.0) (sym none) ∙ x.3) x.1
+
+-- the room ended on the way
+pub passing_full : (σ₀ σ : St) (old : ℕ) (xs ys : List ℕ) (i : ℕ) → (marks_of σ).full ≡ true → Passing σ₀ σ old xs ys i →
+    (e : St) (t : Arena) (before : List Record) → Carries e σ₀ t → old ≤ length t.records → outputs (take old t.records) ≡ outputs before →
+    ys ≡ map (former_half before) xs → Carries e σ (in_turn (extend_bucket before) t (reverse xs))
+passing_full σ₀ σ old xs ys i full g e t before h k same halves =
+    let x = g.at e t before h k same halves in
+    let ns : List ℕ = drop i (reverse xs) in
+    subst (Carries e σ) x.3 (full_more e σ x.0 (in_turn (extend_bucket before) x.0 ns) x.1 full (buckets_grow before ns x.0))

@@ -7,7 +7,7 @@ ghost use Rattle.rules.specs.Lists.{in_turn};
 ghost use Rattle.rules.specs.Records.{Record, outputs};
 ghost use Rattle.rules.specs.Totalizer.{Arena};
 ghost use Rattle.rules.specs.Refinement.{former_half, extend_bucket};
-ghost use Rattle.records.specs.Carries.{St, st, Carries, Steps};
+ghost use Rattle.records.specs.Carries.{St, st, at, after, Carries, Steps};
 ghost use Rattle.refine_outputs.specs.Old.{extend_each, extend_at};
 
 use records::{Marks, Store};
@@ -20,15 +20,15 @@ fn extend_record(
     node: u32,
     most: u32,
     i: usize,
-) -> Marks
-    ensures { Steps (st store.old clauses.old m) (st store.new clauses.new result) (extend_at node most i) }
+) -> Option<Marks>
+    ensures { Steps (st store.old clauses.old (at m)) (st store.new clauses.new (after result)) (extend_at node most i) }
 {
     let before = Store {
         words: store,
         records: m.records,
     };
-    if m.full || !before.is_output(i) || before.output_node(i) != node {
-        return m;
+    if !before.is_output(i) || before.output_node(i) != node {
+        return Some(m);
     }
     let v = before.output_value(i);
     let o = before.output_number(i);
@@ -44,15 +44,15 @@ fn extend_bucket(
     old: usize,
     node: u32,
     most: u32,
-) -> Marks
-    ensures { (e : St) (t : Arena) → Carries e (st store.old clauses.old m) t → old ≤ length t.records →
-        Carries e (st store.new clauses.new result) (extend_each node most (take old t.records) t) }
+) -> Option<Marks>
+    ensures { (e : St) (t : Arena) → Carries e (st store.old clauses.old (at m)) t → old ≤ length t.records →
+        Carries e (st store.new clauses.new (after result)) (extend_each node most (take old t.records) t) }
 {
-    let mut n = m;
+    let mut marks = m;
     for i in 0..old {
-        n = extend_record(store, clauses, n, node, most, i);
+        marks = extend_record(store, clauses, marks, node, most, i)?;
     }
-    n
+    Some(marks)
 }
 
 // The further clauses of the outputs of the buckets, from the last bucket to the first. A pass over the old records for each
@@ -64,14 +64,14 @@ pub fn extend_buckets(
     old: usize,
     buckets: &[u32],
     halves: &[u32],
-) -> Marks
-    ensures { (e : St) (t : Arena) (before : List Record) → Carries e (st store.old clauses.old m) t → old ≤ length t.records →
+) -> Option<Marks>
+    ensures { (e : St) (t : Arena) (before : List Record) → Carries e (st store.old clauses.old (at m)) t → old ≤ length t.records →
         outputs (take old t.records) ≡ outputs before → halves.now ≡ map (former_half before) buckets.now →
-        Carries e (st store.new clauses.new result) (in_turn (extend_bucket before) t (reverse buckets.now)) }
+        Carries e (st store.new clauses.new (after result)) (in_turn (extend_bucket before) t (reverse buckets.now)) }
 {
-    let mut n = m;
+    let mut marks = m;
     for (&node, &most) in buckets.iter().rev().zip(halves.iter().rev()) {
-        n = extend_bucket(store, clauses, n, old, node, most);
+        marks = extend_bucket(store, clauses, marks, old, node, most)?;
     }
-    n
+    Some(marks)
 }

@@ -11,8 +11,7 @@ use Rattle.rules.specs.Totalizer.{Arena}
 use Rattle.rules.specs.Build.{clause_words}
 use Rattle.laws.specs.Lists.Facts.{occurs}
 use Rattle.laws.specs.Records.Words.{image_length}
-use Rattle.records.specs.declared.Marks.{Marks}
-use Rattle.records.specs.Carries.{St, store_of, marks_of, written, Fits, Holds, Carries}
+use Rattle.records.specs.Carries.{Held, St, store_of, marks_of, written, Fits, Holds, Carries}
 use Rattle.records_words.specs.Words.{laid}
 use Rattle.refine_structure.specs.Based.{Based}
 
@@ -23,7 +22,7 @@ module _ (bs : List ℕ) (e e' : St) (n : ℕ) (b : Based bs e e' n) (u : Arena)
   written_same : written e' u ≡ written e u
   unfolding written
   written_same =
-      ap₂ (λ (m : Marks) (c : List ℤ). take m.words c ++ clause_words u.clauses) b.same_marks b.same_buffer
+      ap₂ (λ (m : Held) (c : List ℤ). take m.words c ++ clause_words u.clauses) b.same_marks b.same_buffer
 
   pub based_fits : Fits e u → Fits e' u
   based_fits f = record {
@@ -62,16 +61,16 @@ module _ (bs : List ℕ) (e e' : St) (n : ℕ) (b : Based bs e e' n) (u : Arena)
         records_is = d.records_is;
         words_is = d.words_is ∙ ap length written_same;
         fresh_is = d.fresh_is;
-        clauses_is = d.clauses_is ∙ ap (λ (m : Marks). m.clauses + length u.clauses) b.same_marks;
+        clauses_is = d.clauses_is ∙ ap (λ (m : Held). m.clauses + length u.clauses) b.same_marks;
         not_full = d.not_full;
-        records_low = subst (λ (m : Marks). m.records ≤ length u.records) b.same_marks d.records_low;
-        words_low = subst (λ (m : Marks). m.words ≤ length (written e u)) b.same_marks (subst (λ (w : List ℤ). (marks_of e').words ≤ length w) written_same d.words_low);
+        records_low = subst (λ (m : Held). m.records ≤ length u.records) b.same_marks d.records_low;
+        words_low = subst (λ (m : Held). m.words ≤ length (written e u)) b.same_marks (subst (λ (w : List ℤ). (marks_of e').words ≤ length w) written_same d.words_low);
         count_low = d.count_low;
       }
 
   -- of the words that the entry used only the buckets' differ
   pub based_kept : (τ : St) → Carries e' τ u → (i : ℕ) → i < 8 * (marks_of e).records → occurs (i / 8) bs ≡ 0 → get_or (store_of τ) i 0 ≡ get_or (store_of e) i 0
   based_kept τ c i h k =
-      let m : 8 * (marks_of e').records ≡ 8 * (marks_of e).records = ap (λ (m : Marks). 8 * m.records) b.same_marks in
+      let m : 8 * (marks_of e').records ≡ 8 * (marks_of e).records = ap (λ (m : Held). 8 * m.records) b.same_marks in
       let front : (s : List ℕ) → get_or s i 0 ≡ get_or (take (8 * (marks_of e').records) s) i 0 = λ s. sym (get_or-take (8 * (marks_of e').records) s i 0 (omega arith)) in
       front (store_of τ) ∙ (ap (λ s. get_or s i 0) c.kept_store ∙ (sym (front (store_of e')) ∙ b.others i h k))

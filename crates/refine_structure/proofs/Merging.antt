@@ -1,9 +1,11 @@
 -- A refinement by the state and the words that hold the build: what its parts ask, and what they come to.
 use mathlib.Core.Path.{◌≡◌, sym, ap, ap₂, ◌∙◌, subst}
 use mathlib.Core.Logic.{◌≢◌}
+use mathlib.Core.Bool.{true}
 use mathlib.Core.List.{List, [], ◌++◌, map}
 use Prim.Native.Nat.{ℕ, zero, suc, ◌+◌, ◌*◌, ◌-◌, ◌^◌, ◌≤◌, ◌<◌}
 use native.Mathlib.Omega.{arith}
+use Rattle.std.specs.Prelude.{Some, None}
 use lib.Pow.{pow-add, pow_mono}
 use lib.ListN.{length, get_or, take, replicate, length-append, length-take}
 use lib.Seq.{take-append-le, take-append-add}
@@ -23,19 +25,19 @@ use Rattle.laws.specs.WellFormed.ToClauses.{power_within}
 use Rattle.preserve.specs.Given.{set_positive, weights_few, waiting_below}
 use Rattle.preserve.specs.Refinement.{q}
 use Rattle.records.specs.declared.Marks.{Marks}
-use Rattle.records.specs.Carries.{St, st, Stores, Fits, Carries, Makes}
+use Rattle.records.specs.Carries.{Held, at, St, st, Stores, Fits, Carries, Makes}
 use Rattle.build_line.specs.Work.{line, members_from, made_in}
 use Rattle.build_queue.specs.Queued.{Queued}
 use Rattle.build_queue.proofs.Members.{members_empty}
 use Rattle.build_queue.proofs.Waiting.{queued_start}
 use Rattle.build_buckets.proofs.Words.{made_length}
-use Rattle.build_tower.specs.declared.Segment.{Segment}
 use Rattle.build_tower.specs.Rule.{tower}
 use Rattle.build_begin.specs.declared.Structure.{Structure}
 use Rattle.build_begin.specs.Named.{marks_at, Named}
 use Rattle.build_begin.proofs.Begin.{entry, image_is}
 use Rattle.refine_structure.specs.Refined.{added, spare, Spans, renew, Renewable, Renews, Refinable, Refines}
 use Rattle.refine_structure.proofs.Bases.{fits_based}
+use Rattle.refine_structure.proofs.Renewing.{renew_full}
 use Rattle.refine_structure.proofs.Segments.{finer, after, made, tower_is, merged_is, right, fits_after, merged_tares, merged_buckets, merged_queue}
 
 zeros_small : (n : ℕ) → All (λ t. t < 2147483648) (replicate n 0)
@@ -173,13 +175,13 @@ module _ (s : State) (store : List ℕ) (clauses : List ℤ) (work : List ℕ) (
         tower_is b f built reach)
 
     abbrev e : St
-    e = st store clauses m
+    e = st store clauses (at m)
 
     abbrev bs : List ℕ
     bs = take s.buckets_used s.buckets
 
     begins : Carries e e b.arena
-    begins = subst (λ (x : Marks). Carries (st store clauses x) (st store clauses x) b.arena) (sym g.marks_are) (entry s store clauses g.well)
+    begins = subst (λ (x : Marks). Carries (st store clauses (at x)) (st store clauses (at x)) b.arena) (sym g.marks_are) (entry s store clauses g.well)
 
     base_stored : Stores store m.records b.arena.records
     base_stored = record {
@@ -188,11 +190,11 @@ module _ (s : State) (store : List ℕ) (clauses : List ℤ) (work : List ℕ) (
     }
 
     module _ (halves : List ℕ) (eh : (rs : List Record) → Stores store m.records rs → halves ≡ map (former_half rs) bs)
-        (store₁ work' : List ℕ) (t : Segment)
+        (store₁ work' : List ℕ) (m₁ : Held) (used head : ℕ)
         (tw : (c : List ℤ) → largest (line work h) < 2 ^ (top_bit s.built + spare s) →
-        Makes (st store c m) (st store₁ c t.marks) (made_in work' t.used, line work' t.head)
+        Makes (st store c (at m)) (st store₁ c m₁) (made_in work' used, line work' head)
         (tower (added s) s.set (top_bit s.set) (take (added s + spare s) tares) (members_from work 0 (top_bit s.built + spare s)) (line work h)))
-        (long : length work' ≡ length work) (few : t.used ≤ added s + spare s) (lowers : List ℕ) (el : lowers ≡ made_in work' t.used) (below : ℕ) (eb : below ≡ get_or lowers 0 0) where
+        (long : length work' ≡ length work) (few : used ≤ added s + spare s) (lowers : List ℕ) (el : lowers ≡ made_in work' used) (below : ℕ) (eb : below ≡ get_or lowers 0 0) where
       abbrev new : List ℕ
       new = (made b f built reach).1
 
@@ -205,14 +207,14 @@ module _ (s : State) (store : List ℕ) (clauses : List ℤ) (work : List ℕ) (
           let more : 2 ^ top_bit s.built ≤ 2 ^ (top_bit s.built + spare s) = pow_mono {i = top_bit s.built} {j = top_bit s.built + spare s} (omega arith) in
           omega (arith, ap largest g.queue_is, largest_sort b.queue, waiting_below b f built, more)
 
-      towered : Carries e (st store₁ clauses t.marks) (after b f built reach) ×
-          (Fits e (after b f built reach) → ◌≡◌ {A = List ℕ × List Entry} (made_in work' t.used, line work' t.head) (new, (q b f built reach).queue))
+      towered : Carries e (st store₁ clauses m₁) (after b f built reach) ×
+          (Fits e (after b f built reach) → ◌≡◌ {A = List ℕ × List Entry} (made_in work' used, line work' head) (new, (q b f built reach).queue))
       towered =
-          subst (λ (x : Arena × (List ℕ × List Entry)). Carries e (st store₁ clauses t.marks) x.0 ×
-          (Fits e x.0 → ◌≡◌ {A = List ℕ × List Entry} (made_in work' t.used, line work' t.head) x.1))
+          subst (λ (x : Arena × (List ℕ × List Entry)). Carries e (st store₁ clauses m₁) x.0 ×
+          (Fits e x.0 → ◌≡◌ {A = List ℕ × List Entry} (made_in work' used, line work' head) x.1))
           reached_is ((tw clauses powers).go e b.arena begins)
 
-      ready : Renewable bs e (st store₁ clauses t.marks) m.records below halves b.arena.records d (after b f built reach)
+      ready : Renewable bs e (st store₁ clauses m₁) m.records below halves b.arena.records d (after b f built reach)
       unfolding build_of build_over buckets_of
       ready = record {
         carries = towered.0;
@@ -221,30 +223,42 @@ module _ (s : State) (store : List ℕ) (clauses : List ℤ) (work : List ℕ) (
             (eb ∙ (ap (λ (y : List ℕ). get_or y 0 0) el ∙ ap (λ (y : List ℕ × List Entry). get_or y.0 0 0) (towered.1 x))) (eh b.arena.records base_stored);
       }
 
-      module _ (τ : St) (rn : (s₀ : List ℕ) (m₀ : Marks) (before : List Record) (d : ℕ) (u : Arena) →
-          Renewable bs (st s₀ clauses m₀) (st store₁ clauses t.marks) m.records below halves before d u →
+      -- the room ended in the tower
+      pub tower_ended : m₁.full ≡ true → Refines b e (st store₁ clauses m₁) work' None
+      unfolding build_of build_over buckets_of
+      tower_ended k = record {
+        renews = subst (Renews bs e (st store₁ clauses m₁)) (sym (merged_is b f built reach)) (renew_full _ _ _ _ _ _ _ _ _ _ _ _ ready k);
+        named = λ x. tt;
+      }
+
+      module _ (τ : St) (rn : (s₀ : List ℕ) (m₀ : Held) (before : List Record) (d : ℕ) (u : Arena) →
+          Renewable bs (st s₀ clauses m₀) (st store₁ clauses m₁) m.records below halves before d u →
           Renews bs (st s₀ clauses m₀) τ (renew before bs d u)) where
         renewed : Renews b.buckets e τ (merge_structures b).arena
         unfolding build_of build_over buckets_of
-        renewed = subst (Renews bs e τ) (sym (merged_is b f built reach)) (rn store m b.arena.records d (after b f built reach) ready)
+        renewed = subst (Renews bs e τ) (sym (merged_is b f built reach)) (rn store (at m) b.arena.records d (after b f built reach) ready)
+
+        -- the room ended as the old buckets were renewed
+        pub renew_ended : Refines b e τ work' None
+        renew_ended = record { renews = renewed; named = λ x. tt }
 
         module _ (marks : Marks) (buckets : List ℕ)
             (ek : (xs : List ℕ) → length xs ≡ s.buckets_used → s.buckets ≡ padded 0 20 xs → buckets ≡ padded 0 20 (xs ++ lowers)) where
           abbrev z : Structure
           z = record {
             marks = marks;
-            head = t.head;
+            head = head;
             tares = tares;
             tares_used = s.tares_used + many;
             buckets = buckets;
-            buckets_used = s.buckets_used + t.used;
+            buckets_used = s.buckets_used + used;
           }
 
           named : Fits e (after b f built reach) → Named work' z (merge_structures b)
           unfolding added build_of build_over buckets_of
           named x =
-              let is : made_in work' t.used ≡ new = ap (λ (y : List ℕ × List Entry). y.0) (towered.1 x) in
-              let count : length (made_in work' t.used) ≡ t.used = made_length work' t.used (omega (arith, few, within.1)) (omega (arith, long, g.long)) in
+              let is : made_in work' used ≡ new = ap (λ (y : List ℕ × List Entry). y.0) (towered.1 x) in
+              let count : length (made_in work' used) ≡ used = made_length work' used (omega (arith, few, within.1)) (omega (arith, long, g.long)) in
               record {
                 slots = record {
                   tares_are = tares_are ∙ ap (padded 0 19) (sym (merged_tares b f built reach));
@@ -257,7 +271,7 @@ module _ (s : State) (store : List ℕ) (clauses : List ℤ) (work : List ℕ) (
                 queue_is = ap (λ (y : List ℕ × List Entry). y.1) (towered.1 x) ∙ sym (merged_queue b f built reach);
               }
 
-          pub merge_done : Refines b e τ work' z
+          pub merge_done : Refines b e τ work' (Some z)
           merge_done = record {
             renews = renewed;
             named = λ x. named (fits_after b f built reach e

@@ -15,9 +15,7 @@ use Rattle.laws.specs.Lists.Facts.{All, All_map, occurs, occurs_none}
 use Rattle.laws.specs.Records.Places.{place, place_inside}
 use Rattle.laws.specs.WellFormed.Keeps.{All_reverse}
 use Rattle.laws.specs.Records.Words.{image_length}
-use Rattle.records.specs.declared.Marks.{Marks}
-use Rattle.records.specs.Words.{full_of}
-use Rattle.records.specs.Carries.{St, st, Fits, Holds, Carries, with_records}
+use Rattle.records.specs.Carries.{Held, ended, St, st, Fits, Holds, Carries, with_records}
 use Rattle.records_words.specs.Words.{laid}
 use Rattle.records.proofs.Grow.{Grows, fits_less}
 use Rattle.records.proofs.Step.{over, going}
@@ -34,7 +32,7 @@ laid_rest : (xs s₀ : List ℕ) (n : ℕ) → length xs ≡ n → drop n (laid 
 unfolding laid
 laid_rest xs s₀ n e = subst (λ (k : ℕ). drop k (xs ++ drop (length xs) s₀) ≡ drop k s₀) e (drop-append_seam xs (drop (length xs) s₀))
 
-module _ (bs : List ℕ) (s₀ : List ℕ) (m₀ : Marks) (s : List ℕ) (c : List ℤ) (m : Marks) (old below : ℕ) (halves : List ℕ) (before : List Record)
+module _ (bs : List ℕ) (s₀ : List ℕ) (m₀ : Held) (s : List ℕ) (c : List ℤ) (m : Held) (old below : ℕ) (halves : List ℕ) (before : List Record)
     (d : ℕ) (t : Arena) (r : Renewable bs (st s₀ c m₀) (st s c m) old below halves before d t) where
   abbrev e : St
   e = st s₀ c m₀
@@ -101,10 +99,8 @@ module _ (bs : List ℕ) (s₀ : List ℕ) (m₀ : Marks) (s : List ℕ) (c : Li
     linked_at s' x y e p = subst (λ (i : ℕ). Relinks s s' m.records bs i y) right.below_is (subst (Relinks s s' m.records bs below) e p)
 
     -- a size does not fit
-    pub renew_over : (s' : List ℕ) (z : Marks) (x : Bool) → x ≡ false → Relinks s s' m.records bs below x → z ≡ full_of m →
-        Renews bs e (st s' c z) (renew before bs d t)
-    unfolding full_of
-    renew_over s' z x off p ez = record {
+    pub renew_over : (s' : List ℕ) (x : Bool) → x ≡ false → Relinks s s' m.records bs below x → Renews bs e (st s' c ended) (renew before bs d t)
+    renew_over s' x off p = record {
       entry = st s' c m₀;
       places = n;
       based = based s' p.same_length p.kept;
@@ -116,7 +112,7 @@ module _ (bs : List ℕ) (s₀ : List ℕ) (m₀ : Marks) (s : List ℕ) (c : Li
         kept_buffer = refl;
         fit = λ q. absurd (relinked_over s₀ c m₀ s c m t r.carries k s' bs d inside (linked_at s' x false off p)
             right.once (st s' c m₀) (fits_less (st s' c m₀) linked (renew before bs d t) grows q));
-        full = λ q. ap (λ (x : Marks). x.full) ez;
+        full = λ q. refl;
       };
     }
 

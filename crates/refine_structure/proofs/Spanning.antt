@@ -10,10 +10,8 @@ use Rattle.rules.specs.Digits.{top_bit}
 use Rattle.rules.specs.Build.{largest}
 use Rattle.laws.specs.Lists.Facts.{All}
 use Rattle.laws.specs.WellFormed.Keeps.{All_take}
-use Rattle.records.specs.declared.Marks.{Marks}
-use Rattle.records.specs.Carries.{st, Makes}
+use Rattle.records.specs.Carries.{Held, st, Makes}
 use Rattle.build_line.specs.Work.{line, members_from, made_in}
-use Rattle.build_tower.specs.declared.Segment.{Segment}
 use Rattle.build_tower.specs.Rule.{tower}
 use Rattle.refine_structure.specs.Refined.{added, spare, Spans}
 
@@ -36,14 +34,14 @@ module _ (s : State) (p end : ℕ) (ep : p ≡ top_bit s.set) (ee : end ≡ top_
   segment_small fresh tares h room = All_take (λ t. t < 2147483648) (end - p + own) tares (h (omega (arith, ep, ee)))
 
   -- what a tower of these powers promises
-  module _ (store store' work work' : List ℕ) (m : Marks) (h : ℕ) (tares : List ℕ) (z : Segment) where
+  module _ (store store' work work' : List ℕ) (m m₁ : Held) (h : ℕ) (tares : List ℕ) (used head : ℕ) where
     abbrev Towers : ℕ → ℕ → Type 0
     Towers p end = (c : List ℤ) → largest (line work h) < 2 ^ (end + own) →
-        Makes (st store c m) (st store' c z.marks) (made_in work' z.used, line work' z.head)
+        Makes (st store c m) (st store' c m₁) (made_in work' used, line work' head)
         (tower (end - p) s.set p (take (end - p + own) tares) (members_from work 0 (end + own)) (line work h))
 
     pub segment_made : Towers p end → (c : List ℤ) → largest (line work h) < 2 ^ (top_bit s.built + spare s) →
-        Makes (st store c m) (st store' c z.marks) (made_in work' z.used, line work' z.head)
+        Makes (st store c m) (st store' c m₁) (made_in work' used, line work' head)
         (tower (added s) s.set (top_bit s.set) (take (added s + spare s) tares) (members_from work 0 (top_bit s.built + spare s)) (line work h))
     unfolding added spare
     segment_made t = subst (λ (j : ℕ). Towers (top_bit s.set) j) ee (subst (λ (i : ℕ). Towers i end) ep t)

@@ -1,5 +1,5 @@
 -- What a refinement needs and what it promises.
-use Rattle.std.specs.Prelude.{◌≡◌, ◌≢◌, true, List, map, reverse, ℕ, ◌+◌, ◌-◌, ◌≤◌, ◌<◌, length, take, ℤ}
+use Rattle.std.specs.Prelude.{◌≡◌, ◌≢◌, true, Option, IfSome, List, map, reverse, ℕ, ◌+◌, ◌-◌, ◌≤◌, ◌<◌, length, take, ℤ}
 use Rattle.rules.specs.declared.State.{State}
 use Rattle.rules.specs.Lists.{sort, in_turn}
 use Rattle.rules.specs.Digits.{top_bit}
@@ -74,7 +74,7 @@ pub record Refinable (s : State) (store : List ℕ) (clauses : List ℤ) (work :
   pub queue_is : line work h ≡ sort heavier (build_of s store).queue
   pub none : (k : ℕ) → k < 20 → count_at work k ≡ 0
 
--- the refinement of b is carried, and z names it where it fits
-pub record Refines (b : Build) (e τ : St) (work : List ℕ) (z : Structure) : Type 0 where
+-- the refinement of b is carried, and what is answered names it where it fits
+pub record Refines (b : Build) (e τ : St) (work : List ℕ) (x : Option Structure) : Type 0 where
   pub renews : Renews b.buckets e τ (merge_structures b).arena
-  pub named : Fits renews.entry (merge_structures b).arena → Named work z (merge_structures b)
+  pub named : Fits renews.entry (merge_structures b).arena → IfSome x (λ z. Named work z (merge_structures b))

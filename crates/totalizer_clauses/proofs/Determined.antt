@@ -1,6 +1,6 @@
 -- Any two results that the promise of a public function allows are equal: those of `spread` where the words store records, those of
--- `through` where the value fits a word, those of a step wherever the arena that it leads to fits; steps agree on the full mark
--- everywhere.
+-- `through` where the value fits a word, those of a step wherever the arena that it leads to fits; steps agree everywhere on
+-- whether the room ends.
 use mathlib.Core.Path.{◌≡◌, sym, ap, ◌∙◌}
 use mathlib.Core.List.{List}
 use Prim.Native.Nat.{ℕ, suc, ◌+◌, ◌-◌, ◌≤◌, ◌<◌, min}
@@ -11,7 +11,7 @@ use contract.Lifetimes.{Lfts}
 use Rattle.rules.specs.Records.{Record, node_at, literal_word}
 use Rattle.rules.specs.Totalizer.{asks, pairs_from, write as write-rule, take_number}
 use Rattle.numbers.proofs.Determined.{One_result}
-use Rattle.records.specs.Carries.{st, Reads}
+use Rattle.records.specs.Carries.{st, at, after, Reads}
 use Rattle.records.proofs.Entry.{Same_end, steps_determined}
 use Rattle.totalizer_clauses.proofs.spread.Kinds as spread-kinds
 use Rattle.totalizer_clauses.proofs.spread.Reads as spread
@@ -42,12 +42,12 @@ pub write_determined : (κs : Lfts 2) (a : Dens κs write-kinds.ps) (x y : (res_
     write.Post κs a x e → write.Post κs a y f →
     let sides = a.1.1.1.0 in let v = a.1.1.1.1.0 in let pairs = a.1.1.1.1.1.0 in
     (number : ℕ) → a.1.1.1.1.1.1.0 ≡ literal_word (pos number) → pairs.lo + pairs.many ≤ v + 1 → asks sides.half (v - pairs.lo) < 4294967296 →
-    Same_end (st a.0.now a.1.0.now a.1.1.0) (st a.0.now e.1.0.now x) (st a.0.now f.1.0.now y) (write-rule sides.half sides.left sides.right number (pairs_from pairs.many pairs.lo v))
+    Same_end (st a.0.now a.1.0.now (at a.1.1.0)) (st a.0.now e.1.0.now (after x)) (st a.0.now f.1.0.now (after y)) (write-rule sides.half sides.left sides.right number (pairs_from pairs.many pairs.lo v))
 write_determined κs a x y e f p q n i j k = steps_determined _ _ _ _ (p n i j k) (q n i j k)
 
 pub finish_determined : (κs : Lfts 2) (a : Dens κs finish-kinds.ps) (x y : (res_t finish-kinds.r κs).Denot) (e f : AtExit (ended_of 2 finish-kinds.ps finish-kinds.r) κs) →
     finish.Post κs a x e → finish.Post κs a y f →
     let v = a.1.1.1.1.0 in let sides = a.1.1.1.1.1.0 in let pairs = a.1.1.1.1.1.1.0 in
     pairs.lo + pairs.many ≤ v + 1 → asks sides.half (v - pairs.lo) < 4294967296 →
-    Same_end (st a.0.now a.1.0.now a.1.1.0) (st e.0.now e.1.0.now x) (st f.0.now f.1.0.now y) (λ t. take_number a.1.1.1.0 v (write-rule sides.half sides.left sides.right t.fresh (pairs_from pairs.many pairs.lo v) t))
+    Same_end (st a.0.now a.1.0.now (at a.1.1.0)) (st e.0.now e.1.0.now (after x)) (st f.0.now f.1.0.now (after y)) (λ t. take_number a.1.1.1.0 v (write-rule sides.half sides.left sides.right t.fresh (pairs_from pairs.many pairs.lo v) t))
 finish_determined κs a x y e f p q i j = steps_determined _ _ _ _ (p i j) (q i j)

@@ -4,7 +4,7 @@
 ghost use Rattle.std.specs.Prelude.{◌≡◌, ℕ, ◌+◌, ◌-◌, ◌<◌, ◌≤◌, min, pos};
 ghost use Rattle.rules.specs.Records.{literal_word};
 ghost use Rattle.rules.specs.Totalizer.{asks, pairs_from, clause, write, take_number};
-ghost use Rattle.records.specs.Carries.{st, Steps};
+ghost use Rattle.records.specs.Carries.{st, at, after, Steps};
 ghost use Rattle.records_clauses.specs.Clauses.{with_clause};
 ghost use Rattle.totalizer_clauses.specs.Spread.{Spread};
 
@@ -58,12 +58,17 @@ pub fn through(half: bool, b: u32) -> u32
 }
 
 // The clause of one pair.
-fn pair_clause(s: &[u32], c: &mut [i32], m: Marks, sides: Sides, a: u32, b: u32, o: u32) -> Marks
-    ensures { (number : ℕ) → o ≡ literal_word (pos number) → asks sides.half b < 4294967296 → Steps (st s.now c.old m) (st s.now c.new result) (λ t. with_clause (clause t.records sides.half sides.left sides.right number (a, b)) t) }
+fn pair_clause(
+    s: &[u32],
+    c: &mut [i32],
+    m: Marks,
+    sides: Sides,
+    a: u32,
+    b: u32,
+    o: u32,
+) -> Option<Marks>
+    ensures { (number : ℕ) → o ≡ literal_word (pos number) → asks sides.half b < 4294967296 → Steps (st s.now c.old (at m)) (st s.now c.new (after result)) (λ t. with_clause (clause t.records sides.half sides.left sides.right number (a, b)) t) }
 {
-    if m.full {
-        return m;
-    }
     let store = Store {
         words: s,
         records: m.records,
@@ -82,17 +87,17 @@ pub fn write(
     v: u32,
     pairs: Pairs,
     o: u32,
-) -> Marks
-    ensures { (number : ℕ) → o ≡ literal_word (pos number) → pairs.lo + pairs.many ≤ v + 1 → asks sides.half (v - pairs.lo) < 4294967296 → Steps (st s.now c.old m) (st s.now c.new result) (write sides.half sides.left sides.right number (pairs_from pairs.many pairs.lo v)) }
+) -> Option<Marks>
+    ensures { (number : ℕ) → o ≡ literal_word (pos number) → pairs.lo + pairs.many ≤ v + 1 → asks sides.half (v - pairs.lo) < 4294967296 → Steps (st s.now c.old (at m)) (st s.now c.new (after result)) (write sides.half sides.left sides.right number (pairs_from pairs.many pairs.lo v)) }
 {
     let lo = pairs.lo as usize;
     let end = lo.saturating_add(pairs.many).min(v as usize + 1);
-    let mut n = m;
+    let mut marks = m;
     for a in lo..end {
         let x = a as u32;
-        n = pair_clause(s, c, n, sides, x, v - x, o);
+        marks = pair_clause(s, c, marks, sides, x, v - x, o)?;
     }
-    n
+    Some(marks)
 }
 
 // The clauses of an output with the next number, and then that number taken. Two finds for each clause.
@@ -104,12 +109,12 @@ pub fn finish(
     v: u32,
     sides: Sides,
     pairs: Pairs,
-) -> Marks
-    ensures { pairs.lo + pairs.many ≤ v + 1 → asks sides.half (v - pairs.lo) < 4294967296 → Steps (st s.old c.old m) (st s.new c.new result) (λ t. take_number node v (write sides.half sides.left sides.right t.fresh (pairs_from pairs.many pairs.lo v) t)) }
+) -> Option<Marks>
+    ensures { pairs.lo + pairs.many ≤ v + 1 → asks sides.half (v - pairs.lo) < 4294967296 → Steps (st s.old c.old (at m)) (st s.new c.new (after result)) (λ t. take_number node v (write sides.half sides.left sides.right t.fresh (pairs_from pairs.many pairs.lo v) t)) }
 {
-    if m.full || rules::MOST_VARIABLE < m.fresh {
-        return records::full(m);
+    if rules::MOST_VARIABLE < m.fresh {
+        return None;
     }
-    let n = write(s, c, m, sides, v, pairs, 2 * m.fresh);
-    records_append::output(s, n, node, v)
+    let written = write(s, c, m, sides, v, pairs, 2 * m.fresh)?;
+    records_append::output(s, written, node, v)
 }

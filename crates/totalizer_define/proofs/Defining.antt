@@ -1,23 +1,24 @@
 -- An output asks its connections, a connection asks its node: one law for each way.
+use Rattle.std.specs.Prelude.{Option, is_some}
 use mathlib.Core.Path.{◌≡◌, refl, sym, ap, ap₂, ◌∙◌}
 use mathlib.Core.Bool.{Bool, true, false, false≢true}
 use mathlib.Core.List.{List}
 use Prim.Native.Nat.{ℕ, zero, suc, ◌+◌, ◌-◌, ◌≤◌, ◌<◌, min}
 use native.Mathlib.Omega.{arith}
 use lib.Dec.{ltb}
-use lib.IntN.{ℤ, pos}
+use lib.IntN.{ℤ}
 use Rattle.rules.specs.Lists.{in_turn, keep, rising}
-use Rattle.rules.specs.Records.{Kind, leaf, join, dummy, Output, Record, node_at, left_link, right_link, literal_word}
+use Rattle.rules.specs.Records.{Kind, leaf, join, dummy, Output, Record, node_at, left_link, right_link}
 use Rattle.rules.specs.Totalizer.{Arena, counts, asks, number_of, pairs_from, pairs, write, take_number, Define, ask, ask_pair, define_join, define_kind, define, define_output}
 use Rattle.rules.specs.Refinement.{further_pairs, extend}
-use Rattle.records.specs.declared.Marks.{Marks}
 use Rattle.records.specs.Readers.{is_join, is_halved}
-use Rattle.records.specs.Carries.{St, st, marks_of, Steps, Stores}
+use Rattle.records.specs.Carries.{Held, St, st, marks_of, Steps, Stores}
 use Rattle.records.proofs.Read.{join_parts}
-use Rattle.records.proofs.Step.{steps_none, steps_then, steps_same, stop, held, Rest, rest_start, rest_turn}
+use Rattle.records.proofs.Step.{steps_none, steps_then, steps_same, held, Rest, rest_start, rest_turn, rest_full}
 use Rattle.totalizer_clauses.specs.declared.Pairs.{Pairs}
 use Rattle.totalizer_clauses.specs.Spread.{Spread}
-use Rattle.totalizer_define.proofs.Growth.{define_grows, output_grows, extend_grows}
+use Rattle.totalizer_find.specs.Found.{number_word}
+use Rattle.totalizer_define.proofs.Growth.{turns_grow, pair_grows, define_grows, output_grows}
 use Rattle.totalizer_clauses.proofs.PairWalk.{span_fewer, spread_pairs}
 use Rattle.totalizer_define.proofs.Pairs.{further, pairs_turn, rising_turn}
 
@@ -50,14 +51,18 @@ asks_turn σ₀ σ τ υ f d half l r end a v i p q =
     (steps_then σ τ υ (λ t. ask d t l a) (λ t. ask d t r (asks half (v - a))) p q)
     (pairs_turn half l r d end a v i)
 
+-- the room ended among the pairs
+pub asks_full : (σ₀ σ : St) (f : Arena → Arena) (h : ℕ) (half : Bool) (l r k a v : ℕ) → (marks_of σ).full ≡ true →
+    Rest σ₀ σ f (λ t. in_turn (ask_pair (define h) half l r) t (pairs_from k a v)) → Steps σ₀ σ f
+asks_full σ₀ σ f h half l r k a v full p =
+    rest_full σ₀ σ f (λ t. in_turn (ask_pair (define h) half l r) t (pairs_from k a v))
+    (turns_grow (ask_pair (define h) half l r) (pair_grows (define h) (define_grows h) half l r) (pairs_from k a v)) full p
+
 -- An output -----------------------------------------------------------------------------------------------------------------
 
 pub def_zero : (σ : St) (h n v : ℕ) → h ≡ 0 → Steps σ σ (λ t. define h t n v)
 unfolding define
 def_zero σ h n v e = rw e (steps_none σ)
-
-pub def_stop : (σ : St) (h n v : ℕ) → (marks_of σ).full ≡ true → Steps σ σ (λ t. define h t n v)
-def_stop σ h n v k = stop σ (λ t. define h t n v) (λ t. define_grows h t n v) k
 
 def_suc : (h : ℕ) (t : Arena) (n v : ℕ) → (h ≡ 0 → ⊥) → define h t n v ≡ define_kind (define (h - 1)) n v (node_at t.records n).kind t
 unfolding define
@@ -90,15 +95,17 @@ unfolding define_kind define_join
 join_kind d n v k t half l r ps ek en ep = rw (ek, en, ep) refl
 
 -- no number is 0
-number_zero : (x w : ℕ) → x ≡ literal_word (pos w) → x ≡ 0 → w ≡ 0
-unfolding literal_word
-number_zero x w e f = omega arith
+number_zero : (x : Option ℕ) (w : ℕ) → x ≡ number_word w → is_some x ≡ false → w ≡ 0
+unfolding number_word
+number_zero x zero e f = refl
+number_zero x (suc w) e f = absurd (false≢true (sym f ∙ ap is_some e))
 
-zero_number : (x w : ℕ) → x ≡ literal_word (pos w) → (x ≡ 0 → ⊥) → w ≡ 0 → ⊥
-unfolding literal_word
-zero_number x w e f g = f (omega arith)
+zero_number : (x : Option ℕ) (w : ℕ) → x ≡ number_word w → is_some x ≡ true → w ≡ 0 → ⊥
+unfolding number_word
+zero_number x zero e f g = false≢true (sym (ap is_some e) ∙ f)
+zero_number x (suc w) e f g = let z : suc w ≡ 0 = g in omega arith
 
-module _ (s : List ℕ) (c : List ℤ) (m : Marks) (h n v : ℕ) (some : h ≡ 0 → ⊥) (k : m.full ≡ false) (x : Bool)
+module _ (s : List ℕ) (c : List ℤ) (m : Held) (h n v : ℕ) (some : h ≡ 0 → ⊥) (k : m.full ≡ false) (x : Bool)
     (ex : (rs : List Record) → Stores s m.records rs → x ≡ is_join (node_at rs n).kind) where
   pub def_other : x ≡ false → Steps (st s c m) (st s c m) (λ t. define h t n v)
   def_other nay =
@@ -108,8 +115,8 @@ module _ (s : List ℕ) (c : List ℤ) (m : Marks) (h n v : ℕ) (some : h ≡ 0
         sym (def_suc h t n v some ∙ other_kind (define (h - 1)) n v (node_at t.records n).kind t (sym (ex t.records at) ∙ nay)),
       ))
 
-  module _ (y : ℕ) (ey : (rs : List Record) → Stores s m.records rs → y ≡ literal_word (pos (number_of rs n v))) where
-    pub def_found : (y ≡ 0 → ⊥) → Steps (st s c m) (st s c m) (λ t. define h t n v)
+  module _ (y : Option ℕ) (ey : (rs : List Record) → Stores s m.records rs → y ≡ number_word (number_of rs n v)) where
+    pub def_found : is_some y ≡ true → Steps (st s c m) (st s c m) (λ t. define h t n v)
     def_found nay =
         held s c m (st s c m) (λ t. define h t n v) k (λ t at e. (
           (λ u. u),
@@ -118,7 +125,7 @@ module _ (s : List ℕ) (c : List ℤ) (m : Marks) (h n v : ℕ) (some : h ≡ 0
               found_kind (define (h - 1)) n v (node_at t.records n).kind t (zero_number y (number_of t.records n v) (ey t.records at) nay)),
         ))
 
-    module _ (yes : x ≡ true) (none : y ≡ 0) (half : Bool) (l r lo many : ℕ)
+    module _ (yes : x ≡ true) (none : is_some y ≡ false) (half : Bool) (l r lo many : ℕ)
         (eh : (rs : List Record) → Stores s m.records rs → half ≡ is_halved (node_at rs n).kind)
         (el : (rs : List Record) → Stores s m.records rs → l ≡ left_link (node_at rs n).kind)
         (er : (rs : List Record) → Stores s m.records rs → r ≡ right_link (node_at rs n).kind) (es : Spread s m.records half l r v lo many) where
@@ -140,18 +147,11 @@ module _ (s : List ℕ) (c : List ℤ) (m : Marks) (h n v : ℕ) (some : h ≡ 0
           ))
 
 -- with the node's own height
-pub output_stop : (σ : St) (n v : ℕ) → (marks_of σ).full ≡ true → Steps σ σ (λ t. define_output t n v)
-output_stop σ n v k = stop σ (λ t. define_output t n v) (output_grows n v) k
-
-pub output_done : (s : List ℕ) (c : List ℤ) (m : Marks) (υ : St) (h n v : ℕ) → m.full ≡ false →
+pub output_done : (s : List ℕ) (c : List ℤ) (m : Held) (υ : St) (h n v : ℕ) → m.full ≡ false →
     ((rs : List Record) → Stores s m.records rs → h ≡ (node_at rs n).height) → Steps (st s c m) υ (λ t. define h t n v) → Steps (st s c m) υ (λ t. define_output t n v)
 unfolding define_output
 output_done s c m υ h n v k eh p =
     held s c m υ (λ t. define_output t n v) k (λ t at e. ((λ u. define h u n v), p, ap (λ (i : ℕ). define i t n v) (eh t.records at)))
-
-pub outputs_start : (σ : St) (n many k v : ℕ) → k ≡ many →
-    Rest σ σ (λ t. in_turn (λ t v. define_output t n v) t (rising many v)) (λ t. in_turn (λ t v. define_output t n v) t (rising k v))
-outputs_start σ n many k v e = rw e (rest_start σ (λ t. in_turn (λ t v. define_output t n v) t (rising many v)))
 
 pub outputs_turn : (σ₀ σ τ : St) (f : Arena → Arena) (n end v : ℕ) → v < end → Steps σ τ (λ t. define_output t n v) →
     Rest σ₀ σ f (λ t. in_turn (λ t v. define_output t n v) t (rising (end - v) v)) → Rest σ₀ τ f (λ t. in_turn (λ t v. define_output t n v) t (rising (end - (v + 1)) (v + 1)))
@@ -159,12 +159,16 @@ outputs_turn σ₀ σ τ f n end v i p =
     rest_turn σ₀ σ τ f (λ t. in_turn (λ t v. define_output t n v) t (rising (end - v) v)) (λ t. in_turn (λ t v. define_output t n v) t (rising (end - (v + 1)) (v + 1)))
     (λ t. define_output t n v) p (rising_turn (λ t v. define_output t n v) end v i)
 
+-- the room ended among the outputs
+pub outputs_full : (σ₀ σ : St) (f : Arena → Arena) (n k v : ℕ) → (marks_of σ).full ≡ true →
+    Rest σ₀ σ f (λ t. in_turn (λ t v. define_output t n v) t (rising k v)) → Steps σ₀ σ f
+outputs_full σ₀ σ f n k v full p =
+    rest_full σ₀ σ f (λ t. in_turn (λ t v. define_output t n v) t (rising k v))
+    (turns_grow (λ t v. define_output t n v) (λ t v. output_grows n v t) (rising k v)) full p
+
 -- An output defined earlier ---------------------------------------------------------------------------------------------------
 
-pub extend_stop : (σ : St) (n most : ℕ) (o : Output) → (marks_of σ).full ≡ true → Steps σ σ (λ t. extend n most t o)
-extend_stop σ n most o k = stop σ (λ t. extend n most t o) (extend_grows n most o) k
-
-module _ (s : List ℕ) (c : List ℤ) (m : Marks) (n most v : ℕ) (o : Output) (k : m.full ≡ false) (ev : v ≡ o.value) (l r : ℕ) (all pairs : Pairs) (h : ℕ)
+module _ (s : List ℕ) (c : List ℤ) (m : Held) (n most v : ℕ) (o : Output) (k : m.full ≡ false) (ev : v ≡ o.value) (l r : ℕ) (all pairs : Pairs) (h : ℕ)
     (el : (rs : List Record) → Stores s m.records rs → l ≡ left_link (node_at rs n).kind)
     (er : (rs : List Record) → Stores s m.records rs → r ≡ right_link (node_at rs n).kind) (es : Spread s m.records true l r v all.lo all.many)
     (ep : pairs ≡ record { lo = all.lo; many = min all.many (v - most - all.lo) }) (eh : (rs : List Record) → Stores s m.records rs → h ≡ (node_at rs n).height) where

@@ -7,7 +7,7 @@ ghost use Rattle.rules.specs.Lists.{in_turn, rising};
 ghost use Rattle.rules.specs.Records.{Output, literal_word};
 ghost use Rattle.rules.specs.Totalizer.{asks, ask, ask_pair, pairs_from, define, define_output};
 ghost use Rattle.rules.specs.Refinement.{extend};
-ghost use Rattle.records.specs.Carries.{st, Steps};
+ghost use Rattle.records.specs.Carries.{st, at, after, Steps};
 
 use records::{Marks, Store};
 use totalizer_clauses::{Pairs, Sides};
@@ -16,18 +16,25 @@ use totalizer_clauses::{Pairs, Sides};
 const MOST_VALUE: usize = u32::MAX as usize;
 
 #[cycle(ask_pairs_define_by_resolve)]
-fn define_by(s: &mut [u32], c: &mut [i32], m: Marks, node: u32, v: u32, height: u32) -> Marks
-    ensures { Steps (st s.old c.old m) (st s.new c.new result) (λ t. define height t node v) }
+fn define_by(
+    s: &mut [u32],
+    c: &mut [i32],
+    m: Marks,
+    node: u32,
+    v: u32,
+    height: u32,
+) -> Option<Marks>
+    ensures { Steps (st s.old c.old (at m)) (st s.new c.new (after result)) (λ t. define height t node v) }
 {
-    if height == 0 || m.full {
-        return m;
+    if height == 0 {
+        return Some(m);
     }
     let store = Store {
         words: s,
         records: m.records,
     };
-    if !store.is_join(node) || totalizer_find::find(store, node, v) != 0 {
-        return m;
+    if !store.is_join(node) || totalizer_find::find(store, node, v).is_some() {
+        return Some(m);
     }
     let sides = Sides {
         half: store.halved(node),
@@ -35,8 +42,8 @@ fn define_by(s: &mut [u32], c: &mut [i32], m: Marks, node: u32, v: u32, height: 
         right: store.right(node),
     };
     let pairs = totalizer_clauses::spread(store, sides, v);
-    let k = ask_pairs(s, c, m, sides, v, pairs, height - 1);
-    totalizer_clauses::finish(s, c, k, node, v, sides, pairs)
+    let asked = ask_pairs(s, c, m, sides, v, pairs, height - 1)?;
+    totalizer_clauses::finish(s, c, asked, node, v, sides, pairs)
 }
 
 // What the pairs that add to v use, a rising, left before right.
@@ -49,18 +56,18 @@ fn ask_pairs(
     v: u32,
     pairs: Pairs,
     height: u32,
-) -> Marks
+) -> Option<Marks>
     requires { pairs.lo + pairs.many ≤ v + 1 }
-    ensures { asks sides.half (v - pairs.lo) < 4294967296 → Steps (st s.old c.old m) (st s.new c.new result) (λ t. in_turn (ask_pair (define height) sides.half sides.left sides.right) t (pairs_from pairs.many pairs.lo v)) }
+    ensures { asks sides.half (v - pairs.lo) < 4294967296 → Steps (st s.old c.old (at m)) (st s.new c.new (after result)) (λ t. in_turn (ask_pair (define height) sides.half sides.left sides.right) t (pairs_from pairs.many pairs.lo v)) }
 {
     let lo = pairs.lo as usize;
-    let mut n = m;
+    let mut marks = m;
     for a in lo..lo + pairs.many {
         let x = a as u32;
-        n = resolve(s, c, n, false, sides.left, x, height);
-        n = resolve(s, c, n, sides.half, sides.right, v - x, height);
+        let left = resolve(s, c, marks, false, sides.left, x, height)?;
+        marks = resolve(s, c, left, sides.half, sides.right, v - x, height)?;
     }
-    n
+    Some(marks)
 }
 
 // A connection asks its node for the value that it stands for, skipping 0.
@@ -73,24 +80,21 @@ fn resolve(
     link: u32,
     x: u32,
     height: u32,
-) -> Marks
-    ensures { asks half x < 4294967296 → Steps (st s.old c.old m) (st s.new c.new result) (λ t. ask (define height) t link (asks half x)) }
+) -> Option<Marks>
+    ensures { asks half x < 4294967296 → Steps (st s.old c.old (at m)) (st s.new c.new (after result)) (λ t. ask (define height) t link (asks half x)) }
 {
     let y = totalizer_clauses::through(half, x);
     if y == 0 {
-        m
+        Some(m)
     } else {
         define_by(s, c, m, link, y, height)
     }
 }
 
 // Output v of the node, with all that it uses. A find for each output asked for, two for each clause.
-pub fn define(s: &mut [u32], c: &mut [i32], m: Marks, node: u32, v: u32) -> Marks
-    ensures { Steps (st s.old c.old m) (st s.new c.new result) (λ t. define_output t node v) }
+pub fn define(s: &mut [u32], c: &mut [i32], m: Marks, node: u32, v: u32) -> Option<Marks>
+    ensures { Steps (st s.old c.old (at m)) (st s.new c.new (after result)) (λ t. define_output t node v) }
 {
-    if m.full {
-        return m;
-    }
     let store = Store {
         words: s,
         records: m.records,
@@ -107,26 +111,31 @@ pub fn define_from(
     node: u32,
     first: u32,
     many: usize,
-) -> Marks
-    ensures { first + many ≤ 4294967296 → Steps (st s.old c.old m) (st s.new c.new result) (λ t. in_turn (λ t v. define_output t node v) t (rising many first)) }
+) -> Option<Marks>
+    ensures { first + many ≤ 4294967296 → Steps (st s.old c.old (at m)) (st s.new c.new (after result)) (λ t. in_turn (λ t v. define_output t node v) t (rising many first)) }
 {
     let from = first as usize;
     let end = from.saturating_add(many).min(MOST_VALUE + 1);
-    let mut n = m;
+    let mut marks = m;
     for v in from..end {
-        n = define(s, c, n, node, v as u32);
+        marks = define(s, c, marks, node, v as u32)?;
     }
-    n
+    Some(marks)
 }
 
 // The further clauses of an output that was defined earlier: those of its pairs whose b exceeds `most`, after defining what
 // they use. A find for each output asked for, two for each clause.
-pub fn extend(s: &mut [u32], c: &mut [i32], m: Marks, node: u32, most: u32, v: u32, o: u32) -> Marks
-    ensures { (w : Output) → v ≡ w.value → o ≡ literal_word (pos w.number) → Steps (st s.old c.old m) (st s.new c.new result) (λ t. extend node most t w) }
+pub fn extend(
+    s: &mut [u32],
+    c: &mut [i32],
+    m: Marks,
+    node: u32,
+    most: u32,
+    v: u32,
+    o: u32,
+) -> Option<Marks>
+    ensures { (w : Output) → v ≡ w.value → o ≡ literal_word (pos w.number) → Steps (st s.old c.old (at m)) (st s.new c.new (after result)) (λ t. extend node most t w) }
 {
-    if m.full {
-        return m;
-    }
     let store = Store {
         words: s,
         records: m.records,
@@ -139,6 +148,6 @@ pub fn extend(s: &mut [u32], c: &mut [i32], m: Marks, node: u32, most: u32, v: u
     let all = totalizer_clauses::spread(store, sides, v);
     let pairs = totalizer_clauses::further(all, v, most);
     let height = store.height(node);
-    let k = ask_pairs(s, c, m, sides, v, pairs, height);
-    totalizer_clauses::write(s, c, k, sides, v, pairs, o)
+    let asked = ask_pairs(s, c, m, sides, v, pairs, height)?;
+    totalizer_clauses::write(s, c, asked, sides, v, pairs, o)
 }

@@ -6,7 +6,6 @@ use denote.Triple.Clauses.{AtExit}
 use contract.Lifetimes.{Lfts}
 use Rattle.rules.specs.Records.{Record}
 use Rattle.records.specs.Carries.{Reads}
-use Rattle.totalizer_find.proofs.Walk.{side_injective}
 use Rattle.totalizer_find.proofs.find.Kinds as find-kinds
 use Rattle.totalizer_find.proofs.find.Reads as find
 use Rattle.totalizer_find.proofs.literal.Kinds as literal-kinds
@@ -24,4 +23,4 @@ literal_determined κs a x y e f p q rs h = p rs h ∙ sym (q rs h)
 
 pub side_determined : (κs : Lfts 1) (a : Dens κs side-kinds.ps) (x y : (res_t side-kinds.r κs).Denot) (e f : AtExit (ended_of 1 side-kinds.ps side-kinds.r) κs) →
     side.Post κs a x e → side.Post κs a y f → (rs : List Record) → Reads a.0 rs → x ≡ y
-side_determined κs a x y e f p q rs h = side_injective _ _ (p rs h ∙ sym (q rs h))
+side_determined κs a x y e f p q rs h = p rs h ∙ sym (q rs h)

@@ -1,4 +1,6 @@
 -- A walk from the first record on finds the first output of a node and value.
+use Rattle.std.specs.Prelude.{Some, None}
+use Rattle.std.specs.Option.{unwrap_or}
 use mathlib.Core.Path.{◌≡◌, refl, sym, ap, ◌∙◌}
 use mathlib.Core.Bool.{Bool, true, false, cond, ◌&&◌, false≢true}
 use mathlib.Core.List.{List, [], ◌∷◌}
@@ -8,18 +10,17 @@ use lib.Dec.{eqb}
 use lib.ListN.{length, get_or, drop, drop_of_length-le}
 use lib.Seq.{drop-cons}
 use lib.IntN.{ℤ, pos, neg_ℤ}
-use borrow.Author.Tests.{ne_eqb, eqb-true, eqb-false}
 use Rattle.rules.specs.Records.{Kind, leaf, join, dummy, Record, node, output, waiting, unknown, node_at, node_image, record_image, literal_word, word_literal, outputs}
 use Rattle.rules.specs.WellFormed.{is_leaf}
 use Rattle.rules.specs.Totalizer.{number_in, number_of, literal_of, side}
-use Rattle.laws.specs.Records.Words.{literal_word_literal, word_not_one}
-use Rattle.numbers.proofs.Literals.{word_literal_word}
+use Rattle.laws.specs.Records.Words.{literal_word_literal}
 use Rattle.records.specs.Words.{field_at}
 use Rattle.records.specs.Readers.{leaf_word}
 use Rattle.records_clauses.specs.Clauses.{side_of}
 use Rattle.records.specs.Carries.{Stores}
 use Rattle.records.proofs.Read.{field_is}
 use Rattle.totalizer_find.specs.Hit.{hit_at}
+use Rattle.totalizer_find.specs.Found.{number_word, side_word}
 
 -- the record is output v of node n
 hits : Record → ℕ → ℕ → Bool
@@ -68,6 +69,23 @@ hit_number (output o) n v h = refl
 hit_number (waiting e) n v h = let z : ◌≡◌ {A = ℕ} 0 1 = cc in absurd (omega arith)
 hit_number unknown n v h = let z : ◌≡◌ {A = ℕ} 0 1 = cc in absurd (omega arith)
 
+-- a word of a number, where it is 0 and where it is not
+pub word_none : (n x : ℕ) → x ≡ 0 → x ≡ literal_word (pos n) → None ≡ number_word n
+unfolding number_word literal_word
+word_none zero x z e = refl
+word_none (suc n) x z e = absurd (omega arith)
+
+pub word_some : (n x : ℕ) → (x ≡ 0 → ⊥) → x ≡ literal_word (pos n) → Some x ≡ number_word n
+unfolding number_word literal_word
+word_some zero x s e = absurd (s e)
+word_some (suc n) x s e = ap Some e
+
+-- the word of a number, 0 where it is 0
+pub word_or : (n x : ℕ) → x ≡ unwrap_or (number_word n) 0 → x ≡ literal_word (pos n)
+unfolding number_word literal_word
+word_or zero x e = e
+word_or (suc n) x e = e
+
 -- words that store records, and where the walk stands
 module _ (s : List ℕ) (records : ℕ) (rs : List Record) (h : Stores s records rs) (n v : ℕ) where
   hit_is : (i : ℕ) → hit_at s records i n v ≡ hits (get_or rs i unknown) n v
@@ -91,21 +109,29 @@ module _ (s : List ℕ) (records : ℕ) (rs : List Record) (h : Stores s records
       sym (from i k ∙ ap (λ (b : Bool). cond b (number (get_or rs i unknown)) (number_of (drop (i + 1) rs) n v)) no) ∙ p
 
   -- hit: this is its number
-  pub walk_hit : (i x : ℕ) → i < records → true ≡ hit_at s records i n v → number_of (drop i rs) n v ≡ number_of rs n v → x ≡ field_at s records i 3 →
+  walk_number : (i x : ℕ) → i < records → true ≡ hit_at s records i n v → number_of (drop i rs) n v ≡ number_of rs n v → x ≡ field_at s records i 3 →
       x ≡ literal_word (pos (number_of rs n v))
-  walk_hit i x k e p ex =
+  walk_number i x k e p ex =
       let yes : hits (get_or rs i unknown) n v ≡ true = sym (hit_is i) ∙ sym e in
       ex ∙ (field_is s records rs h i 3 (omega arith) ∙ (hit_number (get_or rs i unknown) n v yes ∙
       ap (λ (w : ℕ). literal_word (pos w))
       (sym (from i k ∙ ap (λ (b : Bool). cond b (number (get_or rs i unknown)) (number_of (drop (i + 1) rs) n v)) yes) ∙ p)))
 
+  pub walk_hit : (i x : ℕ) → i < records → true ≡ hit_at s records i n v → number_of (drop i rs) n v ≡ number_of rs n v → x ≡ field_at s records i 3 →
+      (x ≡ 0 → ⊥) → Some x ≡ number_word (number_of rs n v)
+  walk_hit i x k e p ex some = word_some (number_of rs n v) x some (walk_number i x k e p ex)
+
+  pub walk_zero : (i x : ℕ) → i < records → true ≡ hit_at s records i n v → number_of (drop i rs) n v ≡ number_of rs n v → x ≡ field_at s records i 3 →
+      x ≡ 0 → None ≡ number_word (number_of rs n v)
+  walk_zero i x k e p ex none = word_none (number_of rs n v) x none (walk_number i x k e p ex)
+
   -- past the last record nothing is found
-  pub walk_end : (i : ℕ) → records ≤ i → number_of (drop i rs) n v ≡ number_of rs n v → 0 ≡ literal_word (pos (number_of rs n v))
-  unfolding number_of number_in outputs literal_word
+  pub walk_end : (i : ℕ) → records ≤ i → number_of (drop i rs) n v ≡ number_of rs n v → None ≡ number_word (number_of rs n v)
+  unfolding number_of number_in outputs number_word
   walk_end i k p =
       let c : records ≡ length rs = h.count_is in
       let past : length rs ≤ i = omega arith in
-      ap (λ (w : ℕ). literal_word (pos w)) (sym (ap (λ (z : List Record). number_of z n v) (drop_of_length-le rs past)) ∙ p)
+      ap number_word (sym (ap (λ (z : List Record). number_of z n v) (drop_of_length-le rs past)) ∙ p)
 
 -- a leaf's word is its literal's, any other node's the number found
 module _ (k : Kind) (n x : ℕ) where
@@ -127,33 +153,19 @@ module _ (k : Kind) (n x : ℕ) where
       go (join half l r) e = refl
       go dummy e = refl
 
-pub side_none : (rs : List Record) (n v : ℕ) → v ≡ 0 → side_of 1 ≡ side rs n v
-unfolding side_of side
+pub side_none : (rs : List Record) (n v : ℕ) → v ≡ 0 → None ≡ side_word (side rs n v)
+unfolding side_word side
 side_none rs n v e = rw e refl
 
 pub side_some : (rs : List Record) (n v w x : ℕ) → (v ≡ 0 → ⊥) → w ≡ literal_word (literal_of (node_at rs n).kind (number_of rs n v)) →
-    x ≡ literal_word (neg_ℤ (word_literal w)) → side_of x ≡ side rs n v
-unfolding side_of side
+    x ≡ literal_word (neg_ℤ (word_literal w)) → Some x ≡ side_word (side rs n v)
+unfolding side_word side
 side_some rs n zero w x h e f = absurd (h refl)
 side_some rs n (suc v) w x h e f =
-    let y : ℤ = neg_ℤ (literal_of (node_at rs n).kind (number_of rs n (suc v))) in
-    let is : x ≡ literal_word y
-    = f ∙ ap (λ (z : ℤ). literal_word (neg_ℤ z)) (ap word_literal e ∙ literal_word_literal (literal_of (node_at rs n).kind (number_of rs n (suc v)))) in
-    ap (λ (b : Bool). cond b [] (word_literal x ∷ [])) (ne_eqb x 1 (λ q. word_not_one y (sym is ∙ q))) ∙
-    ap (λ (z : ℤ). z ∷ []) (ap word_literal is ∙ literal_word_literal y)
+    ap Some (f ∙ ap (λ (z : ℤ). literal_word (neg_ℤ z)) (ap word_literal e ∙ literal_word_literal (literal_of (node_at rs n).kind (number_of rs n (suc v)))))
 
--- what a side adds tells its word
-pub side_injective : (x y : ℕ) → side_of x ≡ side_of y → x ≡ y
-unfolding side_of
-side_injective x y = go (eqb x 1) refl (eqb y 1) refl
-  where
-    first : List ℤ → ℤ
-    first [] = pos 0
-    first (z ∷ zs) = z
-
-    go : (b : Bool) → eqb x 1 ≡ b → (c : Bool) → eqb y 1 ≡ c → cond b [] (word_literal x ∷ []) ≡ cond c [] (word_literal y ∷ []) → x ≡ y
-    go true p true q e = eqb-true x 1 p ∙ sym (eqb-true y 1 q)
-    go true p false q e = let z : ◌≡◌ {A = ℕ} 0 1 = ap length e in absurd (omega arith)
-    go false p true q e = let z : ◌≡◌ {A = ℕ} 1 0 = ap length e in absurd (omega arith)
-    go false p false q e =
-        sym (word_literal_word x (eqb-false x 1 p)) ∙ (ap (λ (z : List ℤ). literal_word (first z)) e ∙ word_literal_word y (eqb-false y 1 q))
+-- the word of what a side adds, read again, is what it adds
+pub side_read : (rs : List Record) (n v : ℕ) → side_of (side_word (side rs n v)) ≡ side rs n v
+unfolding side_of side_word side
+side_read rs n zero = refl
+side_read rs n (suc v) = ap (λ (z : ℤ). z ∷ []) (literal_word_literal (neg_ℤ (literal_of (node_at rs n).kind (number_of rs n (suc v)))))

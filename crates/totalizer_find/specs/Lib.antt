@@ -1,2 +1,3 @@
--- The word-level step of finding.
+-- The word-level step of finding, and what is found.
 pub mod Hit
+pub mod Found

@@ -1,6 +1,6 @@
 -- A merge is its two halves and their join, whatever the fuel.
 use mathlib.Core.Path.{◌≡◌, sym, ap, ◌∙◌}
-use mathlib.Core.Bool.{false}
+use mathlib.Core.Bool.{true, false}
 use mathlib.Core.List.{List, [], ◌∷◌}
 use Prim.Native.Nat.{ℕ, zero, suc, ◌-◌, ◌/◌, ◌<◌, ◌≤◌}
 use native.Mathlib.Omega.{arith}
@@ -9,9 +9,9 @@ use lib.Seq.{length-take-le}
 use Rattle.rules.specs.Records.{Record}
 use Rattle.rules.specs.Totalizer.{Arena, joining, add, merge_by, merge}
 use Rattle.laws.specs.Totalizer.Merges.{merge_fuel}
-use Rattle.records.specs.Carries.{St, Makes, on_records, with_records}
+use Rattle.records.specs.Carries.{St, marks_of, Makes, on_records, with_records}
 use Rattle.records.proofs.Grow.{Grows, grows_self, grows_trans}
-use Rattle.records.proofs.Step.{makes_none, makes_same, makes_then}
+use Rattle.records.proofs.Step.{stop, makes_none, makes_same, makes_full, makes_then}
 use Rattle.records_append.proofs.Appending.{join_grows}
 
 -- two merged parts joined
@@ -105,3 +105,19 @@ merge_done ms left right σ τ υ ω l r x h el er p q j =
     = makes_then τ υ ω r x (on_records (λ rs. merge rs right)) (λ (y : ℕ). on_records (λ rs. add rs (joining rs false l y))) (λ y t. join_grows false l y t) q j in
     makes_same σ ω x (λ t. after_left right (on_records (λ rs. merge rs left) t).1 (on_records (λ rs. merge rs left) t).0) (on_records (λ rs. merge rs ms)) (λ t. rw (el, er) (whole ms t h))
     (makes_then σ τ ω l x (on_records (λ rs. merge rs left)) (after_left right) (after_grows right) p both)
+
+-- the room ended in the left part
+pub merge_left_ended : (ms left right : List ℕ) (σ τ : St) (l x : ℕ) → 2 ≤ length ms → left ≡ take (length ms / 2) ms → right ≡ drop (length ms / 2) ms →
+    Makes σ τ l (on_records (λ rs. merge rs left)) → (marks_of τ).full ≡ true → Makes σ τ x (on_records (λ rs. merge rs ms))
+merge_left_ended ms left right σ τ l x h el er p k =
+    merge_done ms left right σ τ τ τ l 0 x h el er p
+    (makes_full τ τ 0 (on_records (λ rs. merge rs right)) k (stop τ (λ t. (on_records (λ rs. merge rs right) t).0) (merge_grows right) k))
+    (makes_full τ τ x (on_records (λ rs. add rs (joining rs false l 0))) k (stop τ (λ t. (on_records (λ rs. add rs (joining rs false l 0)) t).0) (join_grows false l 0) k))
+
+-- or in the right one
+pub merge_right_ended : (ms left right : List ℕ) (σ τ υ : St) (l r x : ℕ) → 2 ≤ length ms → left ≡ take (length ms / 2) ms → right ≡ drop (length ms / 2) ms →
+    Makes σ τ l (on_records (λ rs. merge rs left)) → Makes τ υ r (on_records (λ rs. merge rs right)) → (marks_of υ).full ≡ true →
+    Makes σ υ x (on_records (λ rs. merge rs ms))
+merge_right_ended ms left right σ τ υ l r x h el er p q k =
+    merge_done ms left right σ τ υ υ l r x h el er p q
+    (makes_full υ υ x (on_records (λ rs. add rs (joining rs false l r))) k (stop υ (λ t. (on_records (λ rs. add rs (joining rs false l r)) t).0) (join_grows false l r) k))

@@ -22,16 +22,16 @@ use Rattle.rules.specs.Start.{list_of, checked_end, starting_divisor, new_build,
 use Rattle.laws.specs.Lists.Facts.{and_true, facts_all}
 use Rattle.preserve.specs.Starts.{Lent as Lent-lists, lent}
 use Rattle.records.specs.declared.Marks.{Marks}
-use Rattle.records.specs.Carries.{St, st, Fits, Carries, Steps, Lent, written, peak, read_arena, with_records}
+use Rattle.records.specs.Carries.{Held, at, St, st, Fits, Carries, Steps, Lent, written, peak, read_arena, with_records}
 use Rattle.records.proofs.Grow.{peak_append}
 use Rattle.records.proofs.Entry.{begins, held_zeroed}
-use Rattle.watchdog_start.specs.Writing.{with_more, leaf_records, wait_records, blank_marks, state_with, Begun, Inputs}
+use Rattle.watchdog_start.specs.Writing.{with_more, leaf_records, wait_records, with_inputs, blank_marks, state_with, Begun, Inputs}
 use Rattle.watchdog_start.proofs.Written.{leaves_length, waits_length, leaves_peak, waits_peak}
 
 module _ (lits : List ℤ) (weights : List ℕ) (first : ℕ) (store : List ℕ) (facts : Lent-lists lits weights first store) where
   -- the memory as start finds it: nothing is used
   entry : St
-  entry = st store [] (blank_marks first)
+  entry = st store [] (at (blank_marks first))
 
   unused : Lent entry
   unfolding entry blank_marks records_of image_of peak
@@ -48,10 +48,10 @@ module _ (lits : List ℤ) (weights : List ℕ) (first : ℕ) (store : List ℕ)
 
   -- what it leaves
   left_behind : Arena
-  left_behind = with_more (wait_records weights) (with_more (leaf_records lits) (read_arena entry))
+  left_behind = with_inputs lits weights (read_arena entry)
 
   records_are : left_behind.records ≡ leaf_records lits ++ wait_records weights
-  unfolding left_behind with_more with_records read_arena entry records_of blank_marks
+  unfolding left_behind with_inputs with_more with_records read_arena entry records_of blank_marks
   records_are = refl
 
   many : length left_behind.records ≡ 2 * length lits
@@ -70,7 +70,7 @@ module _ (lits : List ℤ) (weights : List ℕ) (first : ℕ) (store : List ℕ)
   room h = omega arith
 
   enough : Fits entry left_behind
-  unfolding written left_behind with_more with_records read_arena entry blank_marks clause_words
+  unfolding written left_behind with_inputs with_more with_records read_arena entry blank_marks clause_words
   enough = record {
     records_fit = omega (arith, many, room facts.room);
     words_fit = omega arith;
@@ -84,18 +84,17 @@ module _ (lits : List ℤ) (weights : List ℕ) (first : ℕ) (store : List ℕ)
   as_built = refl
 
   -- the store of an accepted start, n being its inputs
-  begun_store : (n : ℕ) (m₀ m₁ m₂ : Marks) (s₁ s₂ : List ℕ) → n ≡ length lits → m₀ ≡ blank_marks first →
-      ((c : List ℤ) → Steps (st store c m₀) (st s₁ c m₁) (with_more (leaf_records lits))) →
-      ((c : List ℤ) → Steps (st s₁ c m₁) (st s₂ c m₂) (with_more (wait_records weights))) →
-      padded 0 (length s₂) (take (16 * n) s₂) ≡ padded 0 (length store) (image_of (records (new_build lits weights first)))
+  begun_store : (n : ℕ) (m₀ : Marks) (m : Held) (s : List ℕ) → n ≡ length lits → m₀ ≡ blank_marks first →
+      ((c : List ℤ) → Steps (st store c (at m₀)) (st s c m) (with_inputs lits weights)) →
+      padded 0 (length s) (take (16 * n) s) ≡ padded 0 (length store) (image_of (records (new_build lits weights first)))
   unfolding entry left_behind
-  begun_store n m₀ m₁ m₂ s₁ s₂ is e p q =
-      let p' : Steps entry (st s₁ [] m₁) (with_more (leaf_records lits)) = subst (λ m. Steps (st store [] m) (st s₁ [] m₁) (with_more (leaf_records lits))) e (p []) in
-      let h : Carries entry (st s₂ [] m₂) left_behind = (q []).go entry _ (p'.go entry _ (begins entry unused)) in
+  begun_store n m₀ m s is e p =
+      let p' : Steps entry (st s [] m) (with_inputs lits weights) = subst (λ k. Steps (st store [] (at k)) (st s [] m) (with_inputs lits weights)) e (p []) in
+      let h : Carries entry (st s [] m) left_behind = p'.go entry _ (begins entry unused) in
       let held = h.fit enough in
-      let k : 16 * n ≡ 8 * m₂.records = omega (arith, held.records_is, many) in
-      ap (λ (j : ℕ). padded 0 (length s₂) (take j s₂)) k ∙
-      ((held_zeroed entry (st s₂ [] m₂) left_behind enough held).0 ∙ ap (λ rs. padded 0 (length store) (image_of rs)) (records_are ∙ as_built))
+      let k : 16 * n ≡ 8 * m.records = omega (arith, held.records_is, many) in
+      ap (λ (j : ℕ). padded 0 (length s) (take j s)) k ∙
+      ((held_zeroed entry (st s [] m) left_behind enough held).0 ∙ ap (λ rs. padded 0 (length store) (image_of rs)) (records_are ∙ as_built))
 
   -- its state
   begun_state : (t d : ℕ) → t ≡ total weights → d ≡ starting_divisor weights → state_with (length lits) t d (2 * length lits) first ≡ state_of (new_build lits weights first)
@@ -122,13 +121,12 @@ module _ (lits : List ℤ) (weights : List ℕ) (first : ℕ) (store : List ℕ)
       }) v
 
   -- both, from what each part promises
-  pub begun : (n t d : ℕ) (a : State) (m₀ m₁ m₂ : Marks) (s₁ s₂ s₃ : List ℕ) → n ≡ length lits → t ≡ total weights → d ≡ starting_divisor weights → a ≡ state_with n t d (2 * n) first → m₀ ≡ blank_marks first →
-      ((c : List ℤ) → Steps (st store c m₀) (st s₁ c m₁) (with_more (leaf_records lits))) →
-      ((c : List ℤ) → Steps (st s₁ c m₁) (st s₂ c m₂) (with_more (wait_records weights))) →
-      s₃ ≡ padded 0 (length s₂) (take (16 * n) s₂) → Begun (new_build lits weights first) store a s₃
-  begun n t d a m₀ m₁ m₂ s₁ s₂ s₃ is all div e b p q z = record {
+  pub begun : (n t d : ℕ) (a : State) (m₀ : Marks) (m : Held) (s s' : List ℕ) → n ≡ length lits → t ≡ total weights → d ≡ starting_divisor weights → a ≡ state_with n t d (2 * n) first → m₀ ≡ blank_marks first →
+      ((c : List ℤ) → Steps (st store c (at m₀)) (st s c m) (with_inputs lits weights)) →
+      s' ≡ padded 0 (length s) (take (16 * n) s) → Begun (new_build lits weights first) store a s'
+  begun n t d a m₀ m s s' is all div e b p z = record {
     state_is = e ∙ (ap (λ (k : ℕ). state_with k t d (2 * k) first) is ∙ begun_state t d all div);
-    store_is = z ∙ begun_store n m₀ m₁ m₂ s₁ s₂ is b p q;
+    store_is = z ∙ begun_store n m₀ m s is b p;
   }
 
 -- the used slots of a list

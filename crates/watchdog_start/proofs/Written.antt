@@ -9,7 +9,7 @@ use borrow.Author.Tests.{leb-true}
 use lib.Dec.{leb}
 use Rattle.std.specs.List.{sum}
 use Rattle.std.proofs.lemmas.List.Recursion.{is_sum_by}
-use lib.ListN.{length, get_or, take, length-map}
+use lib.ListN.{length, get_or, take, drop, length-map, take-append-drop}
 use lib.Seq.{take-suc, take_all}
 use lib.IntN.{ℤ, pos}
 use lib.Pow.{pow-lt}
@@ -20,9 +20,10 @@ use Rattle.rules.specs.Records.{Record, node_of, node, waiting, unknown, leaf_no
 use Rattle.rules.specs.Totalizer.{Arena, add}
 use Rattle.rules.specs.Start.{heaviest, starting_divisor}
 use Rattle.laws.specs.Records.Words.{both}
-use Rattle.records.specs.Carries.{St, Steps, Makes, with_records, with_record, on_records, peak, size}
-use Rattle.records.proofs.Step.{steps_none, steps_then, steps_same, makes_steps}
-use Rattle.watchdog_start.specs.Writing.{with_more, leaf_records, wait_records}
+use Rattle.records.specs.Carries.{St, marks_of, Steps, Makes, with_records, with_record, on_records, peak, size}
+use Rattle.records.proofs.Step.{steps_none, steps_then, steps_same, ended_then, makes_steps}
+use Rattle.records.proofs.Grow.{records_more}
+use Rattle.watchdog_start.specs.Writing.{with_more, leaf_records, wait_records, with_inputs}
 
 -- Records one by one ---------------------------------------------------------------------------------------------------
 
@@ -49,6 +50,15 @@ more_next σ τ υ rs i r h e p q = steps_same σ υ (λ t. with_record r (with_
 -- all
 pub more_all : (σ τ : St) (rs : List Record) (i : ℕ) → length rs ≤ i → Steps σ τ (with_more (take i rs)) → Steps σ τ (with_more rs)
 more_all σ τ rs i h p = steps_same σ τ (with_more (take i rs)) (with_more rs) (λ t. ap (λ l. with_more l t) (take_all i rs h)) p
+
+-- the room ended on the way
+pub more_full : (σ τ : St) (rs : List Record) (i : ℕ) → (marks_of τ).full ≡ true → Steps σ τ (with_more (take i rs)) → Steps σ τ (with_more rs)
+unfolding with_more with_records
+more_full σ τ rs i k p = steps_same σ τ (λ t. with_more (drop i rs) (with_more (take i rs) t)) (with_more rs) (λ t. same t)
+    (ended_then σ τ (with_more (take i rs)) (with_more (drop i rs)) p (λ t. records_more t (drop i rs)) k)
+  where
+    same : (t : Arena) → with_more (drop i rs) (with_more (take i rs) t) ≡ with_more rs t
+    same t = ap (with_records t) (append_assoc t.records (take i rs) (drop i rs) ∙ ap (λ l. t.records ++ l) (take-append-drop i rs))
 
 -- Leaves ---------------------------------------------------------------------------------------------------------------
 
@@ -124,6 +134,16 @@ wait_next σ τ υ ws i h p q =
     let e : i + 0 ≡ i = omega arith in
     more_next σ τ υ (wait_records ws) i (waiting (record { node = i; weight = get_or ws i 0 })) (omega (arith, waits_length ws))
     (wait_there 0 ws i h ∙ ap (λ (n : ℕ). waiting (record { node = n; weight = get_or ws i 0 })) e) p q
+
+-- Both -----------------------------------------------------------------------------------------------------------------
+
+pub inputs_full : (σ τ : St) (lits : List ℤ) (ws : List ℕ) → (marks_of τ).full ≡ true → Steps σ τ (with_more (leaf_records lits)) → Steps σ τ (with_inputs lits ws)
+unfolding with_inputs with_more with_records
+inputs_full σ τ lits ws k p = ended_then σ τ (with_more (leaf_records lits)) (with_more (wait_records ws)) p (λ t. records_more t (wait_records ws)) k
+
+pub inputs_done : (σ τ υ : St) (lits : List ℤ) (ws : List ℕ) → Steps σ τ (with_more (leaf_records lits)) → Steps τ υ (with_more (wait_records ws)) → Steps σ υ (with_inputs lits ws)
+unfolding with_inputs
+inputs_done σ τ υ lits ws p q = steps_then σ τ υ (with_more (leaf_records lits)) (with_more (wait_records ws)) p q
 
 -- Weights --------------------------------------------------------------------------------------------------------------
 

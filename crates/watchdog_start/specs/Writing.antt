@@ -1,5 +1,5 @@
 -- The records that start writes, and its states, for the promises of its private parts.
-use Rattle.std.specs.Prelude.{◌≡◌, true, false, ℕ, ◌≤◌, ℤ, length, replicate, take}
+use Rattle.std.specs.Prelude.{◌≡◌, true, ℕ, ◌≤◌, ℤ, length, replicate, take}
 use mathlib.Core.List.{List, ◌++◌, map, zip_with}
 use Rattle.rules.specs.declared.State.{State}
 use Rattle.rules.specs.declared.Combined.{Combined}
@@ -26,9 +26,13 @@ unfoldable pub wait_records : List ℕ → List Record
 unfolding rising zip_with
 wait_records weights = map waiting (zip_with (λ n w. record { node = n; weight = w }) (rising (length weights) 0) weights)
 
+-- the leaves, and then what waits
+unfoldable pub with_inputs : List ℤ → List ℕ → Arena → Arena
+with_inputs lits weights t = with_more (wait_records weights) (with_more (leaf_records lits) t)
+
 -- nothing is used
 unfoldable pub blank_marks : ℕ → Marks
-blank_marks first = record { records = 0; words = 0; fresh = first; clauses = 0; full = false }
+blank_marks first = record { records = 0; words = 0; fresh = first; clauses = 0 }
 
 -- a state with no tare and no bucket
 unfoldable pub state_with : (inputs sum set records first : ℕ) → State

@@ -7,8 +7,8 @@ ghost use Rattle.rules.specs.Numbers.{lawful_weight};
 ghost use Rattle.rules.specs.Records.{literal_word};
 ghost use Rattle.rules.specs.Start.{list_of, heaviest, starting_divisor, new_build, start};
 ghost use Rattle.preserve.specs.Starts.{Lent};
-ghost use Rattle.records.specs.Carries.{st, Steps};
-ghost use Rattle.watchdog_start.specs.Writing.{with_more, leaf_records, wait_records, blank_marks, state_with, Begun, Inputs};
+ghost use Rattle.records.specs.Carries.{st, at, after, Steps};
+ghost use Rattle.watchdog_start.specs.Writing.{with_more, leaf_records, wait_records, with_inputs, blank_marks, state_with, Begun, Inputs};
 
 use records::Marks;
 use rules::{Combined, Started, State};
@@ -25,31 +25,40 @@ fn blank(first: u32) -> Marks
         words: 0,
         fresh: first,
         clauses: 0,
-        full: false,
     }
 }
 
 // A leaf for each literal, given by its word. Linear.
-fn leaves(s: &mut [u32], mut m: Marks, literals: &[u32]) -> Marks
+fn leaves(s: &mut [u32], mut m: Marks, literals: &[u32]) -> Option<Marks>
     ensures { (lits : List ℤ) → literals.now ≡ map literal_word lits → (c : List ℤ) →
-        Steps (st s.old c m) (st s.new c result) (with_more (leaf_records lits)) }
+        Steps (st s.old c (at m)) (st s.new c (after result)) (with_more (leaf_records lits)) }
 {
     for literal in literals {
-        let leaf = records_append::leaf(s, m, *literal);
+        let leaf = records_append::leaf(s, m, *literal)?;
         m = leaf.marks;
     }
-    m
+    Some(m)
 }
 
 // Each leaf waiting with its weight. Linear.
-fn waits(s: &mut [u32], mut m: Marks, weights: &[u64]) -> Marks
+fn waits(s: &mut [u32], mut m: Marks, weights: &[u64]) -> Option<Marks>
     requires { (all lawful_weight weights.now ≡ true) × (length weights.now ≤ 256) }
-    ensures { (c : List ℤ) → Steps (st s.old c m) (st s.new c result) (with_more (wait_records weights.now)) }
+    ensures { (c : List ℤ) → Steps (st s.old c (at m)) (st s.new c (after result)) (with_more (wait_records weights.now)) }
 {
     for (i, weight) in weights.iter().enumerate() {
-        m = records_append::waiting(s, m, i as u32, *weight as u32);
+        m = records_append::waiting(s, m, i as u32, *weight as u32)?;
     }
-    m
+    Some(m)
+}
+
+// The leaves, and then what waits. Linear.
+fn put_inputs(s: &mut [u32], m: Marks, literals: &[u32], weights: &[u64]) -> Option<Marks>
+    requires { (all lawful_weight weights.now ≡ true) × (length weights.now ≤ 256) }
+    ensures { (lits : List ℤ) → literals.now ≡ map literal_word lits → (c : List ℤ) →
+        Steps (st s.old c (at m)) (st s.new c (after result)) (with_inputs lits weights.now) }
+{
+    let leaves = leaves(s, m, literals)?;
+    waits(s, leaves, weights)
 }
 
 // The weights added up. Linear.
@@ -60,7 +69,7 @@ fn sum(weights: &[u64]) -> u64
     weights.iter().sum()
 }
 
-// The largest weight, 0 where there is none. Linear.
+// The largest weight; of none it is 0, as in the rules. Linear.
 fn heaviest(weights: &[u64]) -> u64
     ensures { result ≡ heaviest weights.now }
 {
@@ -108,8 +117,7 @@ fn begin(
         Begun (new_build lits weights.now first) store.old result store.new }
     ensures clauses { clauses.new ≡ padded (pos 0) (length clauses.old) [] }
 {
-    let m = leaves(store, blank(first), literals);
-    waits(store, m, weights);
+    put_inputs(store, blank(first), literals, weights);
     records_words::zero_words(store, INPUT_WORDS * literals.len());
     records_words::zero_signed(clauses, 0);
     let divisor = starting_divisor(weights);

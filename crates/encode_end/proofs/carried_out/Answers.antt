@@ -11,56 +11,52 @@ set_aside-requires c =
     let pre = c.requires in
     roomy _ pre.0 _ (begins_at _ pre.0 _ c.before_waiting-n.ensures) args.store.now args.work.now refl refl
 
-pub reach-z-requires : goal.reach-z-requires
-reach-z-requires c =
+pub reach-requires : goal.reach-requires
+reach-requires c =
     let pre = c.requires in
     (pre.0.begins, begins_at _ pre.0 _ c.before_waiting-n.ensures, (case_found _ _ pre.1).due_is, c.set_aside.ensures.0)
 
-pub put_back-requires : goal.put_back-requires
-put_back-requires c =
-    let reach = c.reach-z in
+pub state_after-state-requires : goal.state_after-state-requires
+state_after-state-requires c =
+    let new = c.reach.new in
     let pre = c.requires in
-    roomy _ pre.0 _ (begins_at _ pre.0 _ c.before_waiting-n.ensures) reach.new.store reach.new.work reach.ensures.0.same_store (reach.ensures.1 ∙ c.set_aside.ensures.1)
+    (fresh_low _ pre.0 _ (begins_at _ pre.0 _ c.before_waiting-n.ensures) c.in-Some.z new.store new.clauses c.in-Some.ensures.0, omega (arith, pre.0.begins.well.laid.variables_few))
 
 pub settled-requires : goal.settled-requires
 settled-requires c =
-    let reach = c.reach-z in
+    let new = c.reach.new in
     let pre = c.requires in
-    let room = roomy _ pre.0 _ (begins_at _ pre.0 _ c.before_waiting-n.ensures) reach.new.store reach.new.work reach.ensures.0.same_store (reach.ensures.1 ∙ c.set_aside.ensures.1) in
+    records_room _ pre.0 _ (begins_at _ pre.0 _ c.before_waiting-n.ensures) c.in-Some.z new.store new.clauses c.in-Some.ensures.0 _ _ c.state_after-state.ensures
+
+pub put_back-requires : goal.put_back-requires
+put_back-requires c =
+    let none = c.in-None.ensures in
+    let pre = c.requires in
+    roomy _ pre.0 _ (begins_at _ pre.0 _ c.before_waiting-n.ensures) c.reach.new.store c.reach.new.work none.0.same_store (none.1 ∙ c.set_aside.ensures.1)
+
+pub settled-requires-in-None : goal.settled-requires-in-None
+settled-requires-in-None c =
+    let none = c.in-None.ensures in
+    let pre = c.requires in
+    let room = roomy _ pre.0 _ (begins_at _ pre.0 _ c.before_waiting-n.ensures) c.reach.new.store c.reach.new.work none.0.same_store (none.1 ∙ c.set_aside.ensures.1) in
     omega (arith, room.within, c.put_back.ensures.1)
 
-pub shape_of-work-then-z : goal.shape_of-work-then-z
-shape_of-work-then-z c = c.settled.auto.work ∙ (c.reach-z.ensures.1 ∙ c.set_aside.ensures.1)
+pub returns-in-Some : goal.returns-in-Some
+returns-in-Some c =
+    let new = c.reach.new in
+    let some = c.in-Some.ensures in
+    let pre = c.requires in
+    done_end _ pre.0 _ (begins_at _ pre.0 _ c.before_waiting-n.ensures) c.in-Some.z new.store new.clauses some.0 _ _ c.args.case new.work pre.1 c.state_after-state.ensures
+    (some.1 ∙ c.set_aside.ensures.1) c.settled.ensures
 
-pub returns-then-z : goal.returns-then-z
-returns-then-z c =
+pub returns-in-None : goal.returns-in-None
+returns-in-None c =
     let put_back = c.put_back in
-    let reach = c.reach-z in
+    let new = c.reach.new in
+    let none = c.in-None.ensures in
     let set-aside = c.set_aside in
     let pre = c.requires in
     let at = begins_at _ pre.0 _ c.before_waiting-n.ensures in
-    undone_end _ pre.0 _ at reach.result reach.new.store reach.new.clauses reach.ensures.0 c.if-z.true _ put_back.new.store reach.new.work put_back.ensures.1
-    (put_back.ensures.0 c.args.store.now (aside_kept _ pre.0 _ at _ _ set-aside.ensures.0 reach.ensures.1 reach.ensures.2) (kept _ pre.0 _ at reach.result reach.new.store reach.new.clauses reach.ensures.0))
-    (reach.ensures.1 ∙ set-aside.ensures.1) c.settled.ensures
-
-pub state_after-state-requires : goal.state_after-state-requires
-state_after-state-requires c =
-    let reach = c.reach-z in
-    let pre = c.requires in
-    (fresh_low _ pre.0 _ (begins_at _ pre.0 _ c.before_waiting-n.ensures) reach.result reach.new.store reach.new.clauses reach.ensures.0 c.if-z.false, omega (arith, pre.0.begins.well.laid.variables_few))
-
-pub settled-requires-else-z : goal.settled-requires-else-z
-settled-requires-else-z c =
-    let reach = c.reach-z in
-    let pre = c.requires in
-    records_room _ pre.0 _ (begins_at _ pre.0 _ c.before_waiting-n.ensures) reach.result reach.new.store reach.new.clauses reach.ensures.0 c.if-z.false _ _ c.state_after-state.ensures
-
-pub shape_of-work-else-z : goal.shape_of-work-else-z
-shape_of-work-else-z c = c.settled-else-z.auto.work ∙ (c.reach-z.ensures.1 ∙ c.set_aside.ensures.1)
-
-pub returns-else-z : goal.returns-else-z
-returns-else-z c =
-    let reach = c.reach-z in
-    let pre = c.requires in
-    done_end _ pre.0 _ (begins_at _ pre.0 _ c.before_waiting-n.ensures) reach.result reach.new.store reach.new.clauses reach.ensures.0 c.if-z.false _ _ c.args.case reach.new.work pre.1 c.state_after-state.ensures
-    (reach.ensures.1 ∙ c.set_aside.ensures.1) c.settled-else-z.ensures
+    undone_end _ pre.0 _ at new.store new.clauses none.0 _ put_back.new.store new.work put_back.ensures.1
+    (put_back.ensures.0 c.args.store.now (aside_kept _ pre.0 _ at _ _ set-aside.ensures.0 none.1 none.2) (kept _ pre.0 _ at new.store new.clauses none.0))
+    (none.1 ∙ set-aside.ensures.1) c.settled-in-None.ensures

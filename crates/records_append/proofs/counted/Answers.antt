@@ -1,6 +1,5 @@
 -- `counted` halves behind a halving.
-use mathlib.Core.Path.{sym, ap}
-use mathlib.Core.Bool.{Bool}
+use Rattle.std.proofs.Common.{Bool, sym, ap}
 use Rattle.rules.specs.Totalizer.{counts}
 use Rattle.records_append.proofs.counted.Goals as goal
 

@@ -1,9 +1,12 @@
 -- `push_side` writes nothing for a side that is left out.
-use Rattle.records_clauses.proofs.Leaves.{side_none, side_some}
+use Rattle.std.proofs.Common.{refl}
+use Rattle.records_clauses.specs.Clauses.{push_side}
 use Rattle.records_clauses.proofs.push_side.Goals as goal
 
-pub returns-then-w-eq1 : goal.returns-then-w-eq1
-returns-then-w-eq1 c = side_none _ _ c.if-w-eq1.true
+pub returns-in-Some : goal.returns-in-Some
+unfolding push_side
+returns-in-Some c = rw c.in-Some.is c.push.ensures
 
-pub returns-else-w-eq1 : goal.returns-else-w-eq1
-returns-else-w-eq1 c = side_some _ _ _ c.if-w-eq1.false c.push.ensures
+pub returns-in-None : goal.returns-in-None
+unfolding push_side
+returns-in-None c = rw c.in-None.is refl

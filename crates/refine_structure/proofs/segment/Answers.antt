@@ -22,4 +22,4 @@ returns c =
     let top-bit2 = c.top_bit-end in
     let top_bit = c.top_bit-p in
     let pre = c.requires in
-    (segment_made _ _ _ top_bit.ensures.value top-bit2.ensures.value pre.2 _ _ _ _ _ _ _ _ tower.ensures.0, tower.ensures.1, segment_few _ _ _ top_bit.ensures.value top-bit2.ensures.value pre.2 _ tower.ensures.2, tower.ensures.3)
+    (segment_made _ _ _ top_bit.ensures.value top-bit2.ensures.value pre.2 _ _ _ _ _ _ _ _ _ _ tower.ensures.0, tower.ensures.1, segment_few _ _ _ top_bit.ensures.value top-bit2.ensures.value pre.2 _ tower.ensures.2, tower.ensures.3)

@@ -4,7 +4,7 @@ use Prim.Native.Nat.{◌<◌, ◌+◌, ◌-◌, ◌*◌}
 use lib.ListN.{length}
 use Rattle.rules.specs.Lists.{in_turn}
 use Rattle.rules.specs.Totalizer.{asks, ask_pair, define, pairs_from}
-use Rattle.records.specs.Carries.{st}
+use Rattle.records.specs.Carries.{st, at}
 use Rattle.records.proofs.Step.{Rest}
 use Rattle.totalizer_define.proofs.+ask_pairs_define_by_resolve.Given as goal
 
@@ -20,6 +20,6 @@ decreases-resolve l = 3 * l.height + 1
 abbrev pub invariant-ask_pairs-loop-a : goal.invariant-ask_pairs-loop-a
 invariant-ask_pairs-loop-a l =
     (asks l.sides.half (l.v - l.fn.pairs.lo) < 4294967296 →
-    Rest (st l.initial.s l.initial.c l.initial.n) (st l.s l.c l.n) (λ t. in_turn (ask_pair (define l.height) l.sides.half l.sides.left l.sides.right) t (pairs_from l.fn.pairs.many l.fn.pairs.lo l.v))
+    Rest (st l.initial.s l.initial.c (at l.initial.marks)) (st l.s l.c (at l.marks)) (λ t. in_turn (ask_pair (define l.height) l.sides.half l.sides.left l.sides.right) t (pairs_from l.fn.pairs.many l.fn.pairs.lo l.v))
     (λ t. in_turn (ask_pair (define l.height) l.sides.half l.sides.left l.sides.right) t (pairs_from (l.fn.pairs.lo + l.fn.pairs.many - l.a) l.a l.v))) ×
     (length l.s ≡ length l.initial.s) × (length l.c ≡ length l.initial.c)

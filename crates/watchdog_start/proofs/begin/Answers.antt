@@ -6,8 +6,8 @@ use Rattle.rules.specs.Records.{literal_word}
 use Rattle.watchdog_start.proofs.Begun.{begun}
 use Rattle.watchdog_start.proofs.begin.Goals as goal
 
-pub waits-requires : goal.waits-requires
-waits-requires c =
+pub put_inputs-requires : goal.put_inputs-requires
+put_inputs-requires c =
     let pre = c.requires in
     (pre.0, pre.1)
 
@@ -29,6 +29,6 @@ sum-requires c =
 pub returns : goal.returns
 returns c =
     record {
-      begun = λ lits e l. begun _ _ _ _ l _ _ _ _ _ _ _ _ _ _ (ap length e ∙ length-map lits literal_word) c.sum.ensures c.starting_divisor-divisor.ensures c.state.ensures c.blank.ensures (c.leaves-m.ensures lits e) c.waits.ensures c.zero_words.ensures;
+      begun = λ lits e l. begun _ _ _ _ l _ _ _ _ _ _ _ _ (ap length e ∙ length-map lits literal_word) c.sum.ensures c.starting_divisor-divisor.ensures c.state.ensures c.blank.ensures (c.put_inputs.ensures lits e) c.zero_words.ensures;
       clauses = c.zero_signed.ensures;
     }

@@ -1,5 +1,5 @@
 use mathlib.Core.Path.{refl, ◌∙◌}
-use Rattle.watchdog_start.proofs.Written.{more_none, leaf_next, more_all, leaves_over, word_there}
+use Rattle.watchdog_start.proofs.Written.{more_none, leaf_next, more_all, more_full, leaves_over, word_there}
 use Rattle.watchdog_start.proofs.leaves.Goals as goal
 
 pub loop-literal-init : goal.loop-literal-init
@@ -7,12 +7,16 @@ loop-literal-init c = (λ lits e b. more_none _, refl)
 
 pub loop-literal-preserved : goal.loop-literal-preserved
 loop-literal-preserved c =
-    let leaf = c.leaf-leaf in
-    let loop-test = c.loop-literal-test in
+    let test = c.loop-literal-test in
     let loop = c.loop-literal in (
-      λ lits e b. leaf_next _ _ _ _ lits _ _ e loop-test.true (loop.invariant.0 lits e b) (leaf.ensures b _ (word_there _ lits _ e loop-test.true)),
-      leaf.auto.s ∙ loop.invariant.1,
+      λ lits e b. leaf_next _ _ _ _ lits _ _ e test.true (loop.invariant.0 lits e b) (c.in_ok-leaf.ensures b _ (word_there _ lits _ e test.true)),
+      c.leaf.auto.s ∙ loop.invariant.1,
     )
+
+pub returns-in_err-leaf : goal.returns-in_err-leaf
+returns-in_err-leaf c =
+    let test = c.loop-literal-test in
+    λ lits e b. rw c.from_residual.ensures (more_full _ _ _ _ refl (leaf_next _ _ _ _ lits _ _ e test.true (c.loop-literal.invariant.0 lits e b) (c.in_err-leaf.ensures b _ (word_there _ lits _ e test.true))))
 
 pub shape_of-s : goal.shape_of-s
 shape_of-s c = c.loop-literal.invariant.1

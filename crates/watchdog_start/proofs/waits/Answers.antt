@@ -1,6 +1,6 @@
 use mathlib.Core.Path.{refl, ◌∙◌}
 use native.Mathlib.Omega.{arith}
-use Rattle.watchdog_start.proofs.Written.{more_none, wait_next, more_all, waits_over, weight_small}
+use Rattle.watchdog_start.proofs.Written.{more_none, wait_next, more_all, more_full, waits_over, weight_small}
 use Rattle.watchdog_start.proofs.waits.Goals as goal
 
 pub loop-i-init : goal.loop-i-init
@@ -11,11 +11,14 @@ overflow_cast-weight c = omega (arith, weight_small c.args.weights.now c.loop-i.
 
 pub loop-i-preserved : goal.loop-i-preserved
 loop-i-preserved c =
-    let waiting = c.waiting-m in
     let loop = c.loop-i in (
-      λ b. wait_next _ _ _ _ _ c.loop-i-test.true (loop.invariant.0 b) (waiting.ensures b),
-      waiting.auto.s ∙ loop.invariant.1,
+      λ b. wait_next _ _ _ _ _ c.loop-i-test.true (loop.invariant.0 b) (c.in_ok-m.ensures b),
+      c.waiting.auto.s ∙ loop.invariant.1,
     )
+
+pub returns-in_err-m : goal.returns-in_err-m
+returns-in_err-m c =
+    λ b. rw c.from_residual.ensures (more_full _ _ _ _ refl (wait_next _ _ _ _ _ c.loop-i-test.true (c.loop-i.invariant.0 b) (c.in_err-m.ensures b)))
 
 pub shape_of-s : goal.shape_of-s
 shape_of-s c = c.loop-i.invariant.1
