@@ -14,7 +14,7 @@ use Rattle.rules.specs.Build.{largest}
 use Rattle.rules.specs.Queue.{queue_run}
 use Rattle.numbers.proofs.Determined.{One_result}
 use Rattle.records.specs.Carries.{st, at, Reads}
-use Rattle.build_queue.specs.Gathered.{gathered_head, gathered_marks}
+use Rattle.build_queue.specs.Gathered.{run_head, run_marks}
 use Rattle.records.proofs.Entry.{Same_made, makes_determined}
 use Rattle.build_line.specs.Work.{line, members_from}
 use Rattle.build_queue.specs.Queued.{sorting}
@@ -30,8 +30,8 @@ weight_determined κs a x y e f p q = p ∙ sym q
 
 pub gather_determined : (κs : Lfts 2) (a : Dens κs gather-kinds.ps) (x y : (res_t gather-kinds.r κs).Denot) (e f : AtExit (ended_of 2 gather-kinds.ps gather-kinds.r) κs) →
     gather.Post κs a x e → gather.Post κs a y f → (c : List ℤ) (n : ℕ) → n ≤ 20 → largest (line a.1.0.now a.1.1.1.0) < 2 ^ n →
-    Same_made (st a.0.now c (at a.1.1.0)) (st e.0.now c (gathered_marks x)) (st f.0.now c (gathered_marks y))
-    (members_from e.1.0.now 0 n, line e.1.0.now (gathered_head x)) (members_from f.1.0.now 0 n, line f.1.0.now (gathered_head y))
+    Same_made (st a.0.now c (at a.1.1.0)) (st e.0.now c (run_marks x)) (st f.0.now c (run_marks y))
+    (members_from e.1.0.now 0 n, line e.1.0.now (run_head x)) (members_from f.1.0.now 0 n, line f.1.0.now (run_head y))
     (sorting (queue_run (largest (line a.1.0.now a.1.1.1.0)) a.1.1.1.1.0) (members_from a.1.0.now 0 n, line a.1.0.now a.1.1.1.0))
 gather_determined κs a x y e f p q c n i j = makes_determined _ _ _ _ _ _ (p.0 c n i j) (q.0 c n i j)
 

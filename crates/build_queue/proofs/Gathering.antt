@@ -21,7 +21,7 @@ use Rattle.records.proofs.Grow.{Grows, grows_self, grows_trans}
 use Rattle.records.proofs.Step.{makes_none, makes_same, Left, left_start, left_turn, left_end, left_full}
 use Rattle.totalizer_merge.proofs.Merging.{merge_grows}
 use Rattle.build_line.specs.Work.{line, members_from}
-use Rattle.build_queue.specs.Queued.{sorting, Queued, Some_queued, Kept}
+use Rattle.build_queue.specs.Queued.{sorting, Queued, Kept}
 
 -- Growth --------------------------------------------------------------------------------------------------------------------------
 
@@ -170,9 +170,10 @@ going_ended s s' s'' m m' vs ws xs h g f z d w p e reach x k y = (
 )
 
 -- the room ended in a step, which left the words alone
-pub going_kept : (s s' : List ℕ) (m m' : Held) (vs ws xs : List ℕ) (h g d : ℕ) → xs ≡ ws → Going s s' m m' vs ws h g d → Some_queued xs (largest (line vs h))
+pub going_kept : (s s' : List ℕ) (m m' : Held) (vs ws xs : List ℕ) (h g d : ℕ) → xs ≡ ws → Going s s' m m' vs ws h g d →
+    Queued xs g × (largest (line xs g) ≤ largest (line vs h))
 going_kept s s' m m' vs ws xs h g d e y =
-    subst (λ (zs : List ℕ). Some_queued zs (largest (line vs h))) (sym e) (record { head = g; queued = y.queued; low = y.low })
+    subst (λ (zs : List ℕ). Queued zs g × (largest (line zs g) ≤ largest (line vs h))) (sym e) (y.queued, y.low)
 
 -- the largest weight is below the divisor
 pub going_stops : (s s' : List ℕ) (m m' : Held) (vs ws : List ℕ) (h g d w : ℕ) → w ≡ largest (line ws g) → w < d → Going s s' m m' vs ws h g d →

@@ -30,12 +30,6 @@ pub record Queued (ws : List ℕ) (h : ℕ) : Type 0 where
   pub low : largest (line ws h) < 1048576
   pub few : (k : ℕ) → load (λ m. 1) k (members_from ws 0 20) (line ws h) ≤ 256
 
--- some line is a queue of weights at most b: where the room ended within a run, at a head that nobody is told
-pub record Some_queued (ws : List ℕ) (b : ℕ) : Type 0 where
-  pub head : ℕ
-  pub queued : Queued ws head
-  pub low : largest (line ws head) ≤ b
-
 -- what a queue whose weights are at most b keeps: the words from 1024 to 3071, but for the counts of the powers below n where b is below 2 ^ n
 pub record Kept (b : ℕ) (vs ws : List ℕ) : Type 0 where
   pub long : length ws ≡ length vs

@@ -61,7 +61,9 @@ pub fn tower(store: &mut [u32], work: &mut [u32], m: Marks, h: usize, plan: Plan
         (tower plan.entry.taken plan.entry.divisor plan.entry.low plan.entry.tares.now (members_from work.old 0 plan.entry.end) (line work.old h))) × (length work.new ≡ length work.old) × (plan.entry.low + segment_used result ≤ plan.entry.end) × (segment_head result ≤ 512) }
 {
     let numbered = records_append::numbers(m, plan.taken)?;
-    let gathered = build_queue::gather(store, work, numbered, h, plan.divisor)?;
+    let Ok(gathered) = build_queue::gather(store, work, numbered, h, plan.divisor) else {
+        return None;
+    };
     let wait = gathered.head < PLACES;
     let made = build_buckets::buckets_over(
         store,

@@ -12,23 +12,22 @@ returns-in_err-numbered c =
     let pre = c.requires in
     rw c.from_residual.ensures (λ b h. tower_full _ _ _ _ _ _ _ _ _ (c.in_err-numbered.ensures.by_index _ b) refl, refl, omega (arith, pre.2), omega arith)
 
-pub returns-in_err-gathered : goal.returns-in_err-gathered
-returns-in_err-gathered c =
+pub returns-in_default : goal.returns-in_default
+returns-in_default c =
     let pre = c.requires in
-    let gather = c.in_err-gathered.ensures in
-    rw c.from_residual-in_err-gathered.ensures
+    let gather = c.in_default.ensures in
     (λ b h. tower_run_ended _ _ _ _ _ _ _ _ _ _ _ (c.in_ok-numbered.ensures.by_index _ b) (gather.makes b _ pre.3 h) refl, gather.kept.long, omega (arith, pre.2), omega arith)
 
 pub buckets_over-requires : goal.buckets_over-requires
 buckets_over-requires c =
-    let queue = c.in_ok-gathered.ensures.queue in
+    let queue = c.in-Ok.ensures.queue in
     let pre = c.requires in
     (pre.2, pre.3, queue.0.long, λ k h. queued_count _ _ k queue.0 (omega (arith, pre.3)), pre.4 c.in_ok-numbered.ensures.within)
 
 pub returns-in_err-made : goal.returns-in_err-made
 returns-in_err-made c =
     let made = c.in_err-made.ensures in
-    let gather = c.in_ok-gathered.ensures in
+    let gather = c.in-Ok.ensures in
     let pre = c.requires in
     rw c.from_residual-in_err-made.ensures (
       λ b h. makes_any _ _ _ _ _ refl (tower_made _ _ _ _ _ _ _ _ _ _ _ _ _ _ _ (c.in_ok-numbered.ensures.by_index _ b) (gather.makes b _ pre.3 h) (waits_where _ _ _ refl) (members_from_drop _ _ _ pre.2) (line_kept _ _ _ made.2) (made.0 b)),
@@ -40,6 +39,6 @@ returns-in_err-made c =
 pub returns : goal.returns
 returns c =
     let made = c.in_ok-made.ensures in
-    let gather = c.in_ok-gathered.ensures in
+    let gather = c.in-Ok.ensures in
     let pre = c.requires in
     (λ b h. tower_made _ _ _ _ _ _ _ _ _ _ _ _ _ _ _ (c.in_ok-numbered.ensures.by_index _ b) (gather.makes b _ pre.3 h) (waits_where _ _ _ refl) (members_from_drop _ _ _ pre.2) (line_kept _ _ _ made.2) (made.0 b), made.1 ∙ gather.kept.long, made.3, gather.queue.0.head)
