@@ -1,11 +1,10 @@
--- Words copied: where they come from, and what is kept.
-use mathlib.Core.Path.{◌≡◌, refl, sym, ap, ◌∙◌}
-use mathlib.Core.List.{List, ◌++◌}
-use Prim.Native.Nat.{ℕ, ◌+◌, ◌-◌, ◌≤◌, ◌<◌}
+-- Words copied: where they come from, what is kept, and the loop that copies them.
+use mathlib.Core.Path.{◌≡◌, sym, ap, ap₂, ◌∙◌}
+use mathlib.Core.List.{List, ◌++◌, append_assoc}
+use Prim.Native.Nat.{ℕ, suc, ◌+◌, ◌-◌, ◌≤◌, ◌<◌}
 use native.Mathlib.Omega.{arith}
-use lib.ListN.{length, get_or, take, drop, length-append, length-drop, get_or-append}
-use lib.Seq.{get_or-take, get_or-drop, get_or-append-add, length-take-le, ext_get_or, drop-drop}
-use borrow.Rule.Slice.PartMut.{put_mid}
+use lib.ListN.{length, get_or, set, take, drop, length-append, length-drop, get_or-append}
+use lib.Seq.{paste, paste-zero, paste-suc, get_or-take, get_or-drop, get_or-append-add, length-take-le, ext_get_or}
 use Rattle.encode_undo.specs.Copies.{copied}
 
 -- two lists that agree on their first n words have the same front
@@ -59,11 +58,23 @@ module _ (from : List ℕ) (a : ℕ) (to : List ℕ) (b n : ℕ) (in-from : a + 
       (get_or-append-add (take n (drop a from)) (drop (b + n) to) j 0 ∙
       (get_or-drop (b + n) to j 0 ∙ ap (λ (i : ℕ). get_or to i 0) back)))
 
--- a part of one list laid over a part of another
-pub copied_part : (from : List ℕ) (a : ℕ) (to : List ℕ) (b n : ℕ) (ys : List ℕ) → ys ≡ take (a + n - a) (drop a from) →
-    put_mid b (b + n - b) to ys ≡ copied from a to b n
+-- The loop -----------------------------------------------------------------------------------------------------------------------
+
+copied_paste : (from : List ℕ) (a : ℕ) (to : List ℕ) (b n : ℕ) → copied from a to b n ≡ paste to b (drop a from) n
 unfolding copied
-copied_part from a to b n ys e =
-    let to_n : b + n - b ≡ n = omega arith in
-    let from_n : a + n - a ≡ n = omega arith in
-    rw (to_n, e, from_n, drop-drop n b to) refl
+copied_paste from a to b n = sym (append_assoc (take b to) (take n (drop a from)) (drop (b + n) to))
+
+pub copy_start : (from : List ℕ) (a : ℕ) (to : List ℕ) (b : ℕ) → to ≡ copied from a to b 0
+copy_start from a to b = paste-zero to b (drop a from) ∙ sym (copied_paste from a to b 0)
+
+pub copy_turn : (from : List ℕ) (a : ℕ) (to : List ℕ) (b n i x : ℕ) (t u : List ℕ) → a + n ≤ length from → b + n ≤ length to → i < n →
+    t ≡ copied from a to b i → x ≡ get_or from (a + i) 0 → u ≡ set t (b + i) x → u ≡ copied from a to b (i + 1)
+copy_turn from a to b n i x t u in-from in-to low e ex eu =
+    let up : suc i ≡ i + 1 = omega arith in
+    eu ∙
+    (ap₂ (λ (z : List ℕ) (y : ℕ). set z (b + i) y) (e ∙ copied_paste from a to b i) (ex ∙ sym (get_or-drop a from i 0)) ∙
+    (paste-suc to b (drop a from) i 0 (omega arith) (omega (arith, length-drop a from)) ∙
+    (sym (copied_paste from a to b (suc i)) ∙ ap (copied from a to b) up)))
+
+pub copy_end : (from : List ℕ) (a : ℕ) (to : List ℕ) (b n i : ℕ) (t : List ℕ) → i ≤ n → n ≤ i → t ≡ copied from a to b i → t ≡ copied from a to b n
+copy_end from a to b n i t h k e = let same : n ≡ i = omega arith in rw same e

@@ -15,12 +15,15 @@ const WAITING: usize = 0;
 // Where those of the buckets' records do, behind at most 256 waiting records.
 const BUCKETS: usize = records::WORDS * rules::MOST_INPUTS;
 
-// n words of one slice, from a on, over those of another from b on. Linear in the words.
+// n words of one slice, from a on, over those of another from b on. Linear in the words. Word by word: of `copy_from_slice` the
+// compiler makes a call of memmove, which the library for C would then need from outside.
 fn copy(from: &[u32], a: usize, to: &mut [u32], b: usize, n: usize)
     requires { (a + n ≤ length from.now) × (b + n ≤ length to.old) }
     ensures { to.new ≡ copied from.now a to.old b n }
 {
-    to[b..b + n].copy_from_slice(&from[a..a + n]);
+    for i in 0..n {
+        records_words::put(to, b + i, from[a + i]);
+    }
 }
 
 // The words of each bucket's record to the work words, in order. A copy a bucket, at most 20.
