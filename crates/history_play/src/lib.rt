@@ -73,7 +73,7 @@ fn start<W: Write>(out: &mut W, line: &[u8], lent: &mut Lent) -> io::Result<Stat
     let lits = &mut *lent.lits;
     let weights = &mut *lent.weights;
     let r = watchdog_start::start(lits, weights, first, lent.store, lent.clauses);
-    history_print::refusal(out, r.answer)?;
+    history_print::number(out, history_print::refusal(r.answer))?;
     built(out, line, r.state, lent)?;
     Ok(r.state)
 }
@@ -82,7 +82,7 @@ fn start<W: Write>(out: &mut W, line: &[u8], lent: &mut Lent) -> io::Result<Stat
 fn set<W: Write>(out: &mut W, line: &[u8], s: State, lent: &Lent) -> io::Result<State> {
     let divisor = history_text::number(line, 1);
     let r = watchdog_precision::set_precision(s, lent.store, lent.clauses, divisor);
-    history_print::refusal(out, r.answer)?;
+    history_print::number(out, history_print::refusal(r.answer))?;
     built(out, line, r.state, lent)?;
     Ok(r.state)
 }
@@ -92,7 +92,7 @@ fn encode<W: Write>(out: &mut W, line: &[u8], s: State, lent: &mut Lent) -> io::
     let lo = history_text::number(line, 1);
     let end = history_text::number(line, 2);
     let r = watchdog_encode::encode_ub_change(s, lent.store, lent.clauses, lent.work, lo, end);
-    history_print::refusal(out, r.answer)?;
+    history_print::number(out, history_print::refusal(r.answer))?;
     if !history_text::brief(line) {
         totals(out, r.clauses, r.variables)?;
     }

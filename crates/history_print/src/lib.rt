@@ -26,12 +26,9 @@ pub fn answer<W: Write>(out: &mut W, a: Result<u64, Refusal>) -> io::Result<()> 
     }
 }
 
-// The number of a refusal, 0 for none, as C has it.
-pub fn refusal<W: Write>(out: &mut W, a: Result<(), Refusal>) -> io::Result<()> {
-    number(
-        out,
-        a.err().map_or(0, |refusal| u64::from(refusal.number())),
-    )
+// The number of a refusal, 0 for none, as C has it. Constant time.
+pub fn refusal(a: Result<(), Refusal>) -> u64 {
+    a.err().map_or(0, |refusal| u64::from(refusal.number()))
 }
 
 // What parts one group of numbers from the next.
