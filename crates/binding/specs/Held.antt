@@ -24,12 +24,20 @@ unfoldable pub encoded : rules.Encoded → Encoded
 unfolding answer_number
 encoded r = record { refusal = answer_number r.answer; variables = r.variables; clauses = r.clauses; state = r.state }
 
--- the next divisor, or a coarse bound
+-- a number, or the refusal
 unfoldable pub number_value : Result ℕ Refusal → Value
 unfolding answer_number answer_value
 number_value r = record { refusal = answer_number r; value = answer_value 0 r }
+
+-- the next divisor
+abbrev pub divisor_value : Result ℕ Refusal → Value
+divisor_value p = number_value p
 
 -- whether nothing waits: 1 for yes
 unfoldable pub yes_value : Result Bool Refusal → Value
 unfolding answer_number answer_value
 yes_value r = record { refusal = answer_number r; value = cond (answer_value false r) 1 0 }
+
+-- a coarse bound
+abbrev pub bound_value : Result ℕ Refusal → Value
+bound_value c = number_value c

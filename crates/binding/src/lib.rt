@@ -9,7 +9,7 @@ ghost use Rattle.rules.specs.Precision.{set_precision, next_precision, is_max_pr
 ghost use Rattle.rules.specs.Encode.{encode_ub_change};
 ghost use Rattle.rules.specs.Enforce.{enforce_ub};
 ghost use Rattle.rules.specs.Coarse.{coarse_ub};
-ghost use Rattle.binding.specs.Held.{started, set_to, number_value, yes_value, encoded};
+ghost use Rattle.binding.specs.Held.{started, set_to, number_value, divisor_value, yes_value, bound_value, encoded};
 
 use rules::{Refusal, Set, Started, State};
 
@@ -138,7 +138,7 @@ pub fn tweedpillar_set_precision(s: State, store: &[u32], clauses: &[i32], divis
 
 // next_precision: the divisor.
 pub fn tweedpillar_next_precision(s: State, store: &[u32], clauses: &[i32]) -> Value
-    ensures { result ≡ number_value (next_precision s store.now clauses.now) }
+    ensures { result ≡ divisor_value (next_precision s store.now clauses.now) }
 {
     let p = watchdog_precision::next_precision(s, store, clauses);
     Value::from(p)
@@ -183,7 +183,7 @@ pub fn tweedpillar_enforce_ub(
 
 // coarse_ub: the bound.
 pub fn tweedpillar_coarse_ub(s: State, store: &[u32], clauses: &[i32], u: u64) -> Value
-    ensures { result ≡ number_value (coarse_ub s store.now clauses.now u) }
+    ensures { result ≡ bound_value (coarse_ub s store.now clauses.now u) }
 {
     let c = watchdog_precision::coarse_ub(s, store, clauses, u);
     Value::from(c)

@@ -7,7 +7,7 @@ ghost use Rattle.rules.specs.Precision.{set_precision, next_precision, is_max_pr
 ghost use Rattle.rules.specs.Encode.{encode_ub_change};
 ghost use Rattle.rules.specs.Enforce.{enforce_ub};
 ghost use Rattle.rules.specs.Coarse.{coarse_ub};
-ghost use Rattle.binding.specs.Held.{started, set_to, number_value, yes_value, encoded};
+ghost use Rattle.binding.specs.Held.{started, set_to, divisor_value, yes_value, bound_value, encoded};
 
 use binding::{Answered, Encoded, Value};
 use rules::State;
@@ -42,7 +42,7 @@ pub extern "C" fn tweedpillar_set_precision(
 // next_precision: the divisor.
 #[unsafe(no_mangle)]
 pub extern "C" fn tweedpillar_next_precision(s: State, store: &[u32], clauses: &[i32]) -> Value
-    ensures { result ≡ number_value (next_precision s store.now clauses.now) }
+    ensures { result ≡ divisor_value (next_precision s store.now clauses.now) }
 {
     binding::tweedpillar_next_precision(s, store, clauses)
 }
@@ -88,7 +88,7 @@ pub extern "C" fn tweedpillar_enforce_ub(
 // coarse_ub: the bound.
 #[unsafe(no_mangle)]
 pub extern "C" fn tweedpillar_coarse_ub(s: State, store: &[u32], clauses: &[i32], u: u64) -> Value
-    ensures { result ≡ number_value (coarse_ub s store.now clauses.now u) }
+    ensures { result ≡ bound_value (coarse_ub s store.now clauses.now u) }
 {
     binding::tweedpillar_coarse_ub(s, store, clauses, u)
 }
