@@ -1,0 +1,2 @@
+-- What the promise of the one function allows.
+pub mod Determined
