@@ -42,7 +42,18 @@ fn define_by(
         right: store.right(node),
     };
     let pairs = totalizer_clauses::spread(store, sides, v);
-    let asked = ask_pairs(s, c, m, sides, v, pairs, height - 1)?;
+    let Marks {
+        records,
+        words,
+        fresh,
+        clauses,
+    } = ask_pairs(s, c, m, sides, v, pairs, height - 1)?;
+    let asked = Marks {
+        records,
+        words,
+        fresh,
+        clauses,
+    };
     totalizer_clauses::finish(s, c, asked, node, v, sides, pairs)
 }
 

@@ -48,14 +48,14 @@ define_by-returns-then-not-is_join t c =
           def_found _ _ _ _ _ _ c.if-height-eq0.false refl _ c.is_join.ensures _ w.find.ensures (sym w.is_some.ensures ∙ w.if-is_some.true)
     ]
 
-pub define_by-returns-in_err-asked : goal.define_by-returns-in_err-asked
-define_by-returns-in_err-asked t c =
-    rw c.from_residual.ensures (def_done _ _ _ _ _ _ c.if-height-eq0.false refl _ c.is_join.ensures _ c.find.ensures c.if-not-is_join.false (sym c.is_some.ensures ∙ c.if-is_some.false) _ _ _ _ _ c.halved.ensures c.left.ensures c.right.ensures c.spread-pairs.ensures _ _ c.in_err-asked.ensures
+pub define_by-returns-in_err-records : goal.define_by-returns-in_err-records
+define_by-returns-in_err-records t c =
+    rw c.from_residual.ensures (def_done _ _ _ _ _ _ c.if-height-eq0.false refl _ c.is_join.ensures _ c.find.ensures c.if-not-is_join.false (sym c.is_some.ensures ∙ c.if-is_some.false) _ _ _ _ _ c.halved.ensures c.left.ensures c.right.ensures c.spread-pairs.ensures _ _ c.in_err-records.ensures
     (λ i j. stop _ _ (finish_grows _ _ _ _ _ _) refl))
 
 pub define_by-returns : goal.define_by-returns
 define_by-returns t c =
-    def_done _ _ _ _ _ _ c.if-height-eq0.false refl _ c.is_join.ensures _ c.find.ensures c.if-not-is_join.false (sym c.is_some.ensures ∙ c.if-is_some.false) _ _ _ _ _ c.halved.ensures c.left.ensures c.right.ensures c.spread-pairs.ensures _ _ c.in_ok-asked.ensures c.finish.ensures
+    def_done _ _ _ _ _ _ c.if-height-eq0.false refl _ c.is_join.ensures _ c.find.ensures c.if-not-is_join.false (sym c.is_some.ensures ∙ c.if-is_some.false) _ _ _ _ _ c.halved.ensures c.left.ensures c.right.ensures c.spread-pairs.ensures _ _ c.in_ok-records.ensures c.finish.ensures
 
 pub resolve-returns-then-y-eq0 : goal.resolve-returns-then-y-eq0
 resolve-returns-then-y-eq0 t c = λ i. ask_none _ _ _ _ _ (c.through-y.ensures i) c.if-y-eq0.true
