@@ -42,6 +42,7 @@ fn define_by(
         right: store.right(node),
     };
     let pairs = totalizer_clauses::spread(store, sides, v);
+    // taken apart and put together: handed on as they come, they stand twice on the stack of each level
     let Marks {
         records,
         words,
